@@ -1,0 +1,5 @@
+pub mod Lines
+pub mod Parts
+pub mod Blocks
+pub mod Places
+pub mod Maximal

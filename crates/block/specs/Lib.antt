@@ -1,0 +1,4 @@
+pub mod Line
+pub mod Block
+pub mod Reading
+pub mod Samples

@@ -1,0 +1,4 @@
+pub mod Label
+pub mod Reading
+pub mod Unclosed
+pub mod Samples

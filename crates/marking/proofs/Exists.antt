@@ -1,0 +1,111 @@
+-- The reading from left to right makes a marking that meets the conditions.
+use mathlib.Core.Path.{_≡_, refl, sym, _∙_, subst}
+use mathlib.Core.Bool.{Bool, true, false, false≢true}
+use mathlib.Core.Option.{Option·none-ne-some}
+use Prim.Native.Nat.{ℕ, zero, suc, _+_, _≤_, _<_}
+use native.Mathlib.Omega.{arith}
+use lib.Dec.{ltb}
+use lib.ListN.{getD}
+use borrow.Author.Tests.{ltb-true, ltb-false}
+use Rattle.marking.specs.Marking.{Role, nothing, opening, closing, trailing, role, Meets}
+use Rattle.marking.specs.Spans.{Span, codeSpan, linkSpan, SpanOf}
+use Rattle.marking.specs.Grammar.{Grammar, rulesOf, MeetsTo}
+use Rattle.marking.specs.Reading.{State, pieceAt, blank, foundBy, placeAfter, extend, found, step, run, start, reading}
+use Rattle.marking.proofs.Roles.{nothing≢closing, opening≢closing, trailing≢closing}
+use Rattle.marking.proofs.Stack.{StackOf, stack-start}
+use Rattle.marking.proofs.Next.{FoundIs}
+use Rattle.marking.proofs.Extend.{extended}
+use Rattle.marking.proofs.Found.{LastLink, found-alone, found-closing, further, stack-further, last-bounds, last-link-is}
+use Rattle.marking.proofs.SpanStep.{SpansTo, spans-extended}
+
+pub record Inv {T : Type 0} (g : Grammar T) (s : State T) : Type 0 where
+  pub meets : MeetsTo g (s .place) (s .marking)
+  pub bound : s .place ≤ g .size
+  pub stack-is : StackOf (s .marking .pieces) (s .stack)
+  pub last-is : LastLink (s .marking) (s .last-link)
+  pub spans-are : SpansTo g (s .place) (s .marking) (s .spans)
+
+pub found-is : {T : Type 0} (g : Grammar T) (s : State T) → Inv g s → FoundIs g (s .marking) (pieceAt g (s .place)) (found g s)
+unfolding found
+found-is g s v = by (role (g .kindAt (s .place))) refl
+  where
+    by : (r : Role) → role (g .kindAt (s .place)) ≡ r
+        → FoundIs g (s .marking) (pieceAt g (s .place)) (foundBy (λ i. g .tailAt (getD (s .marking .pieces) i blank .end) (s .place)) (s .last-link) (s .stack) r)
+    by nothing e = found-alone g (s .marking) (pieceAt g (s .place)) (λ i e′ l. nothing≢closing (sym e ∙ e′))
+    by opening e = found-alone g (s .marking) (pieceAt g (s .place)) (λ i e′ l. opening≢closing (sym e ∙ e′))
+    by closing e = found-closing g (s .marking) (s .place) (s .last-link) (v .last-is) e (s .stack) (v .stack-is)
+    by trailing e = found-alone g (s .marking) (pieceAt g (s .place)) (λ i e′ l. trailing≢closing (sym e ∙ e′))
+
+pub step-inv : {T : Type 0} (g : Grammar T) (s : State T) → Inv g s → s .place < g .size → Inv g (step g s) × (s .place < step g s .place)
+unfolding step extend
+step-inv g s v h =
+    let fi : FoundIs g (s .marking) (pieceAt g (s .place)) (found g s) = found-is g s v in
+    let w : (s .place < placeAfter g (pieceAt g (s .place)) (found g s)) × (placeAfter g (pieceAt g (s .place)) (found g s) ≤ g .size) = further g (s .marking) (s .place) (v .meets) h (found g s) fi in (
+      record {
+        meets = extended g (s .marking) (s .place) (v .meets) h (found g s) fi;
+        bound = w .1;
+        stack-is = stack-further g (s .marking) (s .place) (v .meets) h (found g s) (s .stack) (v .stack-is);
+        last-is =
+            record {
+              bounds = last-bounds g (s .marking) (s .place) (v .meets) h (s .last-link) (v .last-is) (found g s) fi;
+              is-link = last-link-is g (s .marking) (s .place) (v .meets) h (s .last-link) (v .last-is) (found g s) fi;
+            };
+        spans-are = spans-extended g (s .marking) (s .place) (v .meets) h (found g s) fi (s .spans) (v .spans-are);
+      },
+      w .0,
+    )
+
+-- ---- the whole reading
+
+no-span : {T : Type 0} (x : Span T) → SpanOf (start .marking) x → ⊥
+unfolding start
+no-span (codeSpan q) s = Option·none-ne-some q (s .at)
+no-span (linkSpan o c t) s = Option·none-ne-some t (s .linked)
+
+pub start-inv : {T : Type 0} (g : Grammar T) → Inv g start
+unfolding start
+start-inv g =
+    record {
+      meets =
+          record {
+            tiled = refl;
+            kinds = λ k q a. absurd (Option·none-ne-some q a);
+            tails = λ i j t x l. absurd (Option·none-ne-some t l);
+            no-other-tails = λ k q a. absurd (Option·none-ne-some q a);
+            pairs-are = λ i j. ((λ e. absurd (false≢true e)), λ p. absurd (Option·none-ne-some (p .closed .piece) (p .closed .at)));
+            links-are = λ i j t. ((λ e. absurd (Option·none-ne-some t e)), λ l. absurd (false≢true (l .paired)));
+          };
+      bound = omega arith;
+      stack-is = stack-start;
+      last-is = record { bounds = λ i j t l. absurd (Option·none-ne-some t l); is-link = λ e. absurd (omega arith) };
+      spans-are =
+          record {
+            are = record { each = λ x s. absurd (no-span x s); no-others = λ x h. absurd (Option·none-ne-some x (h .1)); in-order = λ k x y a. absurd (Option·none-ne-some x a) };
+            ends = λ x h. absurd (Option·none-ne-some x (h .1));
+          };
+    }
+
+abbrev pub Done : {T : Type 0} → Grammar T → State T → Type 0
+Done g s = Inv g s × (s .place ≡ g .size)
+
+run-suc : (n : ℕ) {T : Type 0} (g : Grammar T) (s : State T) → Inv g s → g .size ≤ s .place + suc n
+    → ((s′ : State T) → Inv g s′ → g .size ≤ s′ .place + n → Done g (run n g s′)) → Done g (run (suc n) g s)
+unfolding run
+run-suc n {T} g s v h below = by (ltb (s .place) (g .size)) refl
+  where
+    by : (x : Bool) → ltb (s .place) (g .size) ≡ x → Done g (elim x as (λ y. State T) [ true ↦ run n g (step g s) | false ↦ s ])
+    by true e =
+        let w : Inv g (step g s) × (s .place < step g s .place) = step-inv g s v (ltb-true (s .place) (g .size) e) in
+        below (step g s) (w .0) (omega (arith, w .1))
+    by false e = (v, omega (arith, ltb-false (s .place) (g .size) e, v .bound))
+
+pub run-inv : (n : ℕ) {T : Type 0} (g : Grammar T) (s : State T) → Inv g s → g .size ≤ s .place + n → Done g (run n g s)
+unfolding run
+run-inv zero g s v h = (v, omega (arith, v .bound))
+run-inv (suc n) g s v h = run-suc n g s v h (λ s′ v′ h′. run-inv n g s′ v′ h′)
+
+pub exists : {T : Type 0} (g : Grammar T) → Meets (rulesOf g) (reading g)
+unfolding reading
+exists g =
+    let w : Inv g (run (g .size) g start) × (run (g .size) g start .place ≡ g .size) = run-inv (g .size) g start (start-inv g) (omega arith) in
+    subst (λ (b : ℕ). MeetsTo g b (run (g .size) g start .marking)) (w .1) (w .0 .meets)

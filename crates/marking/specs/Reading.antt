@@ -1,0 +1,127 @@
+-- A reading from left to right that makes the marking: what the code does, as a definition.
+use mathlib.Core.Bool.{Bool, true, false, cond}
+use mathlib.Core.Option.{Option, none, some}
+use mathlib.Core.List.{List, [], _∷_, _++_, tail}
+use Prim.Native.Nat.{ℕ, zero, suc, _+_}
+use lib.Dec.{ltb, eqb}
+use lib.ListN.{length, getD}
+use Rattle.marking.specs.Marking.{Kind, escape, code, plain, opens, closes, tail as tailKind, Role, nothing, opening, closing, trailing, role, Piece, Marking, tailPiece}
+use Rattle.marking.specs.Spans.{Span, codeSpan, linkSpan}
+use Rattle.marking.specs.Grammar.{Grammar}
+
+-- what a piece comes to: no pair, a pair with piece i, or a link with piece i and its tail
+pub data Found (T : Type 0) : Type 0 where
+  alone : Found T
+  paired : ℕ → Found T
+  linked : ℕ → T → Found T
+
+pub record State (T : Type 0) : Type 0 where
+  pub place : ℕ
+  pub marking : Marking T
+  -- the opening pieces that wait for their closing piece, the last one first
+  pub stack : List ℕ
+  -- the opening piece of the last link; 0 where there is none yet. A pair has a link between exactly where it opens before this
+  pub last-link : ℕ
+  pub spans : List (Span T)
+
+-- f with its column k replaced
+abbrev pub column : {B : Type 0} → (ℕ → ℕ → B) → ℕ → (ℕ → B) → ℕ → ℕ → B
+column f k c i j = cond (eqb j k) (c i) (f i j)
+
+abbrev pub pairColumn : {T : Type 0} → Found T → ℕ → Bool
+pairColumn alone i = false
+pairColumn (paired a) i = eqb i a
+pairColumn (linked a t) i = eqb i a
+
+abbrev pub linkColumn : {T : Type 0} → Found T → ℕ → Option T
+linkColumn alone i = none
+linkColumn (paired a) i = none
+linkColumn (linked a t) i = cond (eqb i a) (some t) none
+
+abbrev pub pieceAt : {T : Type 0} → Grammar T → ℕ → Piece
+pieceAt g s = record { kind = g .kindAt s; start = s; end = g .endAt s }
+
+abbrev pub blank : Piece
+blank = record { kind = plain; start = 0; end = 0 }
+
+abbrev pub withTail : {T : Type 0} → ℕ → Option T → Found T
+withTail i none = paired i
+withTail i (some t) = linked i t
+
+-- what a closing piece comes to, by the tail that it would have with each opening piece
+abbrev pub foundClosing : {T : Type 0} → (ℕ → Option T) → ℕ → List ℕ → Found T
+foundClosing tailOf last-link [] = alone
+foundClosing tailOf last-link (i ∷ st) = cond (ltb i last-link) (paired i) (withTail i (tailOf i))
+
+abbrev pub foundBy : {T : Type 0} → (ℕ → Option T) → ℕ → List ℕ → Role → Found T
+foundBy tailOf last-link st nothing = alone
+foundBy tailOf last-link st opening = alone
+foundBy tailOf last-link st closing = foundClosing tailOf last-link st
+foundBy tailOf last-link st trailing = alone
+
+abbrev pub stackBy : ℕ → List ℕ → Role → List ℕ
+stackBy k st nothing = st
+stackBy k st opening = k ∷ st
+stackBy k st closing = tail st
+stackBy k st trailing = st
+
+abbrev pub extra : {T : Type 0} → Grammar T → Piece → Found T → List Piece
+extra g q alone = []
+extra g q (paired i) = []
+extra g q (linked i t) = tailPiece q (g .lengthOf t) ∷ []
+
+abbrev pub placeAfter : {T : Type 0} → Grammar T → Piece → Found T → ℕ
+placeAfter g q alone = q .end
+placeAfter g q (paired i) = q .end
+placeAfter g q (linked i t) = q .end + g .lengthOf t
+
+abbrev pub lastAfter : {T : Type 0} → ℕ → Found T → ℕ
+lastAfter last-link alone = last-link
+lastAfter last-link (paired i) = last-link
+lastAfter last-link (linked i t) = i
+
+abbrev pub isCode : Kind → Bool
+isCode escape = false
+isCode code = true
+isCode plain = false
+isCode opens = false
+isCode closes = false
+isCode tailKind = false
+
+-- the span that ends with the piece q, by what q comes to; openPiece gives the piece that q is paired with
+abbrev pub newSpans : {T : Type 0} → (ℕ → Piece) → Piece → Found T → List (Span T)
+newSpans openPiece q alone = cond (isCode (q .kind)) (codeSpan q ∷ []) []
+newSpans openPiece q (paired i) = []
+newSpans openPiece q (linked i t) = linkSpan (openPiece i) q t ∷ []
+
+-- m with the piece q and what it comes to
+unfoldable pub extend : {T : Type 0} → Grammar T → Marking T → Piece → Found T → Marking T
+extend g m q f =
+    record {
+      pieces = m .pieces ++ q ∷ extra g q f;
+      pairs = column (m .pairs) (length (m .pieces)) (pairColumn f);
+      links = column (m .links) (length (m .pieces)) (linkColumn f);
+    }
+
+unfoldable pub found : {T : Type 0} → Grammar T → State T → Found T
+found g s = foundBy (λ i. g .tailAt (getD (s .marking .pieces) i blank .end) (s .place)) (s .last-link) (s .stack) (role (g .kindAt (s .place)))
+
+unfoldable pub step : {T : Type 0} → Grammar T → State T → State T
+step g s =
+    record {
+      place = placeAfter g (pieceAt g (s .place)) (found g s);
+      marking = extend g (s .marking) (pieceAt g (s .place)) (found g s);
+      stack = stackBy (length (s .marking .pieces)) (s .stack) (role (g .kindAt (s .place)));
+      last-link = lastAfter (s .last-link) (found g s);
+      spans = s .spans ++ newSpans (λ i. getD (s .marking .pieces) i blank) (pieceAt g (s .place)) (found g s);
+    }
+
+unfoldable pub run : {T : Type 0} → ℕ → Grammar T → State T → State T
+run zero g s = s
+run (suc n) g s = elim (ltb (s .place) (g .size)) [ true ↦ run n g (step g s) | false ↦ s ]
+
+unfoldable pub start : {T : Type 0} → State T
+start = record { place = 0; marking = record { pieces = []; pairs = λ i j. false; links = λ i j. none }; stack = []; last-link = 0; spans = [] }
+
+unfoldable pub reading : {T : Type 0} → Grammar T → Marking T
+reading g = run (g .size) g start .marking

@@ -1,0 +1,5 @@
+pub mod Form
+pub mod Reading
+pub mod Turn
+pub mod Equality
+pub mod Samples

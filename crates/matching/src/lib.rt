@@ -1,0 +1,69 @@
+// When two link labels are equal, compared in step and with no copy.
+ghost use mathlib.Core.Path.{_≡_};
+ghost use Rattle.scan.specs.Byte.{blank};
+ghost use Rattle.scan.specs.Scan.{past};
+ghost use Rattle.matching.specs.Form.{fold};
+ghost use Rattle.matching.specs.Reading.{matches};
+ghost use Rattle.matching.specs.Turn.{gap, agree};
+
+// A to Z as a to z.
+fn folded(b: u8) -> u8
+    ensures { λ r. ⌜ r ≡ fold b ⌝ }
+{
+    if (65 <= b) & (b <= 90) {
+        return b + 32;
+    }
+    b
+}
+
+// The first place from `at` on where no blank stands; the end is one.
+pub fn past_blanks(s: &[u8], at: usize) -> usize
+    ensures { λ r. ⌜ r ≡ past blank (now (s .entry)) at ⌝ }
+{
+    let mut i = at;
+    while i < s.len() {
+        let b = s[i];
+        if !scan::is_blank(b) {
+            return i;
+        }
+        i += 1;
+    }
+    i
+}
+
+// Whether the blanks from `i` to `p` count as a space: there are some, and not at the start.
+fn gap_before(i: usize, p: usize) -> bool
+    ensures { λ r. ⌜ r ≡ gap i p ⌝ }
+{
+    (i != 0) & (p != i)
+}
+
+// Whether two labels agree in what comes next, where they were read to `i` and `j` and the blanks there reach to `p` and `q`.
+pub fn agree_at(a: &[u8], b: &[u8], i: usize, j: usize, p: usize, q: usize) -> bool
+    ensures { λ r. ⌜ r ≡ agree (now (a .entry)) (now (b .entry)) i j p q ⌝ }
+{
+    let over = a.len() <= p;
+    let level = gap_before(i, p) == gap_before(j, q);
+    let same = folded(scan::peek(a, p)) == folded(scan::peek(b, q));
+    (over == (b.len() <= q)) & (over | level & same)
+}
+
+// Whether two labels are equal.
+pub fn same_label(a: &[u8], b: &[u8]) -> bool
+    ensures { λ r. ⌜ r ≡ matches (now (a .entry)) (now (b .entry)) ⌝ }
+{
+    let mut i = 0;
+    let mut j = 0;
+    loop {
+        let p = past_blanks(a, i);
+        let q = past_blanks(b, j);
+        if !agree_at(a, b, i, j, p, q) {
+            return false;
+        }
+        if a.len() <= p {
+            return true;
+        }
+        i = p + 1;
+        j = q + 1;
+    }
+}

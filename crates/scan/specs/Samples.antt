@@ -1,0 +1,47 @@
+-- The first unescaped delimiter, by computation.
+use Prim.Native.Nat.{ℕ}
+use Prim.Native.String.{String}
+use mathlib.Core.Path.{_≡_, refl}
+use mathlib.Core.List.{List, [], _∷_}
+use mathlib.Core.Bool.{Bool, true, false, _&&_}
+use lib.Dec.{eqb}
+use Rattle.scan.specs.Ascii.{ascii}
+use Rattle.scan.specs.Scan.{scan}
+use Rattle.scan.specs.Closing.{closingStep, closing}
+use Rattle.scan.specs.declared.Found.{Found}
+use Rattle.scan.specs.declared.Found.the-variants.{At, Nothing}
+
+abbrev same : Found → Found → Bool
+same (At a) (At b) = eqb a b
+same (At a) Nothing = false
+same Nothing (At b) = false
+same Nothing Nothing = true
+
+-- a text and where its `]` stands, with `[` barred
+pub record Sample : Type 0 where
+  pub text : String
+  pub answer : Found
+
+abbrev sample : String → Found → Sample
+sample s f = record { text = s; answer = f }
+
+abbrev pub samples : List Sample
+samples =
+    sample "foo]" (At 3)
+    ∷ sample "]" (At 0)
+    ∷ sample "foo" Nothing
+    ∷ sample "foo\\]" Nothing
+    ∷ sample "foo\\]]" (At 5)
+    ∷ sample "foo\\\\]" (At 5)
+    ∷ sample "fo[o]" Nothing
+    ∷ sample "fo\\[o]" (At 5)
+    ∷ sample "a\\b]" (At 3)
+    ∷ []
+
+abbrev hold : List Sample → Bool
+hold [] = true
+hold (s ∷ more) = same (closing 93 91 93 (ascii (s .text)) 0) (s .answer) && hold more
+
+pub samples-hold : hold samples ≡ true
+unfolding scan closingStep closing
+samples-hold = refl

@@ -1,0 +1,11 @@
+pub mod Below
+pub mod Rows
+pub mod ByOnes
+pub mod Steps
+pub mod Table
+pub mod Character
+pub mod FirstBad
+pub mod Counting
+pub mod Clean
+pub mod Refusals
+pub mod Boundary
