@@ -4,9 +4,9 @@ use native.Mathlib.Nat.{zero-add}
 use native.Mathlib.Omega.{arith}
 use mathlib.Core.Path.{_≡_, refl, sym, ap, _∙_}
 use mathlib.Core.List.{List, [], _∷_, _++_}
-use mathlib.Core.Bool.{Bool, true, false, true≢false, cond, not, _&&_, _||_}
+use mathlib.Core.Bool.{Bool, true, false, true≢false, not, _||_}
 use mathlib.Core.Logic.{_↔_}
-use borrow.Author.Tests.{le-leb, leb-true, eq-eqb, eqb-true, not-true}
+use borrow.Author.Tests.{le-leb, leb-true, eq-eqb, eqb-true}
 use lib.ListN.{length, take, drop}
 use lib.Seq.{take-at}
 use lib.Dec.{leb}

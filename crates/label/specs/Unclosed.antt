@@ -9,7 +9,7 @@ use borrow.Author.Tests.{eq-eqb, ne-eqb}
 use lib.ListN.{length, getD, drop, length-drop, drop-of-length-le}
 use lib.Seq.{getD-drop}
 use lib.Dec.{eqb, eqb·zero-suc}
-use Rattle.scan.specs.Test.{by, or-false, eqb-same}
+use Rattle.scan.specs.Test.{by, eqb-same}
 use Rattle.scan.specs.Byte.{punctuation, escapes, bare}
 use Rattle.scan.specs.Scan.{scan, scan-cons, at-cons}
 use Rattle.scan.specs.Closing.{closingStep, closingFrom, closing, closes, barred, passed}

@@ -8,13 +8,14 @@ use borrow.Author.Tests.{eq-eqb, eqb-true}
 use lib.Dec.{eqb}
 use Rattle.scan.specs.Test.{by, and-left, and-right}
 use Rattle.scan.specs.Byte.{blank}
-use Rattle.matching.specs.Form.{fold, Blanks, none, blanks, Word, last, byte, Over, Words, rest, word, joined, Compared, Equal}
+use Rattle.scan.specs.Every.{none, more}
+use Rattle.matching.specs.Form.{fold, Blanks, Word, last, byte, Over, Words, rest, word, joined, Compared, Equal}
 use Rattle.matching.specs.Reading.{spaced, formOf, form-blank, form-ink, compared, equals, matches}
 
 -- ---- the reading of blanks, of a word, and of what follows a word
 form-blanks : {g : List ℕ} → Blanks g → (l : List ℕ) → formOf (g ++ l) true ≡ formOf l true
 form-blanks none l = refl
-form-blanks (blanks e h) l = form-blank _ _ true e ∙ form-blanks h l
+form-blanks (more e h) l = form-blank _ _ true e ∙ form-blanks h l
 
 form-word : {w : List ℕ} → Word w → (l : List ℕ) (tight : Bool) → formOf (w ++ l) tight ≡ map fold w ++ formOf l false
 form-word (last e) l tight = form-ink _ l tight e
@@ -28,7 +29,7 @@ form-over (b ∷ l) e = form-blank b l false e ∙ ap spaced (sym (form-blank b 
 form-rest : {g : List ℕ} → Blanks g → formOf g true ≡ []
 unfolding formOf
 form-rest none = refl
-form-rest (blanks {b} {g} e h) = form-blank b g true e ∙ form-rest h
+form-rest (more {b} {l} e h) = form-blank b l true e ∙ form-rest h
 
 -- ---- the words of a label, folded and joined, are what the reading gives
 wordsForm : List (List ℕ) → List ℕ
@@ -60,15 +61,15 @@ Split l = (ws : List (List ℕ)) × Words l ws
 
 blanks-over : {g : List ℕ} → Blanks g → Over g
 blanks-over none = refl
-blanks-over (blanks e h) = e
+blanks-over (more e h) = e
 
 split-blank : {b : ℕ} {l : List ℕ} → blank b ≡ true → (ws : List (List ℕ)) → Words l ws → Split (b ∷ l)
-split-blank e ws (rest h) = ([], rest (blanks e h))
-split-blank e ws (word g v o h) = (ws, word (blanks e g) v o h)
+split-blank e ws (rest h) = ([], rest (more e h))
+split-blank e ws (word g v o h) = (ws, word (more e g) v o h)
 
 grown : {b : ℕ} {g w l : List ℕ} {ws : List (List ℕ)} → blank b ≡ false → Blanks g → Word w → Over l → Words l ws → Split (b ∷ (g ++ (w ++ l)))
 grown {b} {w} {ws} e none v o h = ((b ∷ w) ∷ ws, word none (byte e v) o h)
-grown {b} {w} {ws} e (blanks k g) v o h = ((b ∷ []) ∷ w ∷ ws, word none (last e) k (word (blanks k g) v o h))
+grown {b} {w} {ws} e (more k g) v o h = ((b ∷ []) ∷ w ∷ ws, word none (last e) k (word (more k g) v o h))
 
 split-ink : {b : ℕ} {l : List ℕ} → blank b ≡ false → (ws : List (List ℕ)) → Words l ws → Split (b ∷ l)
 split-ink {b} e ws (rest h) = ((b ∷ []) ∷ [], word none (last e) (blanks-over h) (rest h))

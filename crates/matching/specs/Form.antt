@@ -5,15 +5,15 @@ use mathlib.Core.List.{List, [], _∷_, _++_, map}
 use mathlib.Core.Bool.{true, false, cond}
 use lib.ListN.{getD}
 use Rattle.scan.specs.Byte.{within, blank}
+use Rattle.scan.specs.Every.{Every}
 
 -- "fold A to Z to a to z"
 unfoldable pub fold : ℕ → ℕ
 fold b = cond (within 65 90 b) (b + 32) b
 
 -- any number of blanks: "space, tab and LF"
-pub data Blanks : List ℕ → Type 0 where
-  none : Blanks []
-  blanks : {b : ℕ} {g : List ℕ} → blank b ≡ true → Blanks g → Blanks (b ∷ g)
+abbrev pub Blanks : List ℕ → Type 0
+Blanks = Every blank
 
 -- one byte or more, and none of them blank
 pub data Word : List ℕ → Type 0 where

@@ -3,7 +3,6 @@ use Prim.Native.Nat.{ℕ, _+_}
 use mathlib.Core.Path.{_≡_}
 use mathlib.Core.List.{List, [], _∷_, _++_}
 use mathlib.Core.Bool.{Bool, true, false, cond, not, _&&_, _||_}
-use lib.ListN.{length}
 use lib.Dec.{eqb}
 use Rattle.scan.specs.Byte.{punctuation, escapes, bare}
 use Rattle.scan.specs.Scan.{Step, stop, next, scan}

@@ -1,12 +1,10 @@
 -- Reading a list by leaps: what stands at the front says how far to leap and what to report, and so on to the end.
-use Prim.Native.Nat.{ℕ, zero, suc, _+_, _-_, _≤_, _<_}
+use Prim.Native.Nat.{ℕ, zero, suc, _+_, _-_, _≤_}
 use native.Mathlib.Nat.{add-zero}
 use native.Mathlib.Omega.{arith}
-use mathlib.Core.Path.{_≡_, refl, sym, ap, _∙_}
+use mathlib.Core.Path.{_≡_, refl, ap, _∙_}
 use mathlib.Core.List.{List, [], _∷_, _++_}
-use lib.ListN.{length, drop, length-drop, drop-of-length-le}
-use lib.Seq.{drop-drop}
-use Rattle.scan.specs.Scan.{at-cons}
+use lib.ListN.{length, drop, drop-of-length-le}
 
 module _ {A : Type 0} (size : List ℕ → ℕ) (items : List ℕ → ℕ → List A) where
   -- k bytes are still to be passed before the next leap starts; `at` is the place of the front

@@ -2,8 +2,8 @@
 use borrow.Author.Tests.{not-true, not-false}
 use borrow.Author.Needs.{needs}
 use mathlib.Core.Path.{_≡_}
-use Prim.Native.Nat.{_+_, _-_}
-use lib.ListN.{length, drop}
+use Prim.Native.Nat.{_-_}
+use lib.ListN.{length}
 use Rattle.scan.specs.Scan.{past, past-on, past-stop, past-end}
 use Rattle.block.specs.Line.{padding}
 use Rattle.block.proofs.past_padding.Statement.{statement}

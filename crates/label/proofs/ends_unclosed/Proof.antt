@@ -1,6 +1,6 @@
 -- The loop reads `l` as `closing` reads it with a `]` after it.
 use borrow.Author.Needs.{needs}
-use mathlib.Core.Path.{_≡_, ap, _∙_}
+use mathlib.Core.Path.{ap, _∙_}
 use Prim.Native.Nat.{_-_, _≤_}
 use lib.ListN.{length}
 use Rattle.scan.specs.Byte.{punctuation}
