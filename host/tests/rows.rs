@@ -1,0 +1,55 @@
+//! The check program `rows`.
+
+use std::io::Write;
+use std::process::{Command, Stdio};
+
+/// The program's standard output and exit code for a note on standard input.
+fn rows(arguments: &[&str], note: &[u8]) -> (String, Option<i32>) {
+    let mut program = Command::new(env!("CARGO_BIN_EXE_rows"))
+        .args(arguments)
+        .stdin(Stdio::piped())
+        .stdout(Stdio::piped())
+        .spawn()
+        .expect("the program starts");
+    let mut input = program.stdin.take().expect("a standard input");
+    input.write_all(note).expect("the program reads the note");
+    drop(input);
+    let output = program.wait_with_output().expect("the program ends");
+    let printed = String::from_utf8(output.stdout).expect("output in UTF-8");
+    (printed, output.status.code())
+}
+
+const NOTE: &[u8] = b"[max]: /q2/max \"June\"\n\nUse [max].\n";
+
+#[test]
+fn one_item_a_line() {
+    let wanted = "definition 1 4 7 14 16 20\n\
+                  span 5 27 32 28 31 1 7 14 16 20\n\
+                  page \"<p>Use <a href=\\\"/q2/max\\\" title=\\\"June\\\">max</a>.</p>\\n\"\n";
+    assert_eq!(rows(&[], NOTE), (wanted.to_string(), Some(0)));
+}
+
+#[test]
+fn the_page_alone() {
+    let wanted = "<p>Use <a href=\"/q2/max\" title=\"June\">max</a>.</p>\n";
+    assert_eq!(rows(&["--page"], NOTE), (wanted.to_string(), Some(0)));
+}
+
+#[test]
+fn refusals() {
+    assert_eq!(rows(&[], b"ab\r"), ("refusal 2 2\n".to_string(), Some(1)));
+    let deep = format!("[a]: b\n\n{}", "[".repeat(65));
+    assert_eq!(
+        rows(&[], deep.as_bytes()),
+        (
+            "definition 1 2 5 6 0 0\nrefusal 4 72\n".to_string(),
+            Some(1)
+        )
+    );
+}
+
+#[test]
+fn note_in_a_file() {
+    let file = concat!(env!("CARGO_MANIFEST_DIR"), "/tests/data/max.md");
+    assert_eq!(rows(&[file], b""), rows(&[], NOTE));
+}
