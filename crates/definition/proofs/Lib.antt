@@ -1,0 +1,11 @@
+pub mod Lines
+pub mod Endings
+pub mod Labelled
+pub mod Definitions
+pub mod Places
+pub mod Takings
+pub mod Paragraphs
+pub mod Notes
+pub mod NotePlaces
+pub mod Turns
+pub mod NoteEnds

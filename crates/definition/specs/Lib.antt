@@ -1,0 +1,4 @@
+pub mod Definition
+pub mod Note
+pub mod Reading
+pub mod Samples

@@ -1,0 +1,4 @@
+pub mod Put
+pub mod Turn
+pub mod Filled
+pub mod First

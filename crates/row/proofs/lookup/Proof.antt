@@ -1,0 +1,124 @@
+-- The rows left give what all of them do, and what is left of a row's label compares as the whole does.
+use borrow.Author.Needs.{needs}
+use borrow.Author.Tests.{not-true, not-false}
+use Prim.Native.Nat.{_-_, _≤_}
+use native.Mathlib.Omega.{arith}
+use mathlib.Core.Path.{_≡_, refl, sym}
+use lib.ListN.{length, length-take, length-drop}
+use Rattle.matching.specs.Reading.{equals, matches}
+use Rattle.matching.specs.Turn as turn
+use Rattle.row.specs.Reading.{rowOf}
+use Rattle.row.proofs.Turn.{rowFrom, begins, part-within, hit, miss, none}
+use Rattle.row.proofs.lookup.Statement.{statement}
+use Rattle.row.proofs.lookup.Tie as tie
+
+abbrev Inv-loop : tie.InvT-loop
+Inv-loop note table count label k₀ start end own i₀ j₀ k i j = (k ≡ k₀) × (length own ≤ length note) × (equals (turn.formFrom own i) (turn.formFrom label j) ≡ matches own label)
+
+abbrev μ-loop : tie.MeasureT-loop
+μ-loop note table count label k₀ start end own i₀ j₀ k i j = length own - i
+
+abbrev Inv-rows : tie.InvT-rows
+Inv-rows note table count label k₀ k = (k ≤ count) × (rowFrom note table label k (count - k) ≡ rowOf note table label count)
+
+abbrev μ-rows : tie.MeasureT-rows
+μ-rows note table count label k₀ k = count - k
+
+rows-holds : tie.Need-rows-holds Inv-loop μ-loop Inv-rows μ-rows
+rows-holds c = (search needs, begins _ _ _ _)
+
+mul-range-at : tie.Need-mul-range-at Inv-loop μ-loop Inv-rows μ-rows
+mul-range-at c = search needs
+
+range-at-requires : tie.Need-range-at-requires Inv-loop μ-loop Inv-rows μ-rows
+range-at-requires c κs = search needs
+
+sub-own : tie.Need-sub-own Inv-loop μ-loop Inv-rows μ-rows
+sub-own c = let w = part-within (c .before .before .before .before .before .before .pre) (c .before .before .rows .k) (c .before .if1 .left) (c .range-at .ensures) in omega arith
+
+part-own-start : tie.Need-part-own-start Inv-loop μ-loop Inv-rows μ-rows
+part-own-start c = let w = part-within (c .before .before .before .before .before .before .pre) (c .before .before .rows .k) (c .before .if1 .left) (c .range-at .ensures) in omega arith
+
+part-own-end : tie.Need-part-own-end Inv-loop μ-loop Inv-rows μ-rows
+part-own-end c = let w = part-within (c .before .before .before .before .before .before .pre) (c .before .before .rows .k) (c .before .if1 .left) (c .range-at .ensures) in omega arith
+
+loop-holds : tie.Need-loop-holds Inv-loop μ-loop Inv-rows μ-rows
+loop-holds c = (refl, simp (length-take, length-drop) (omega arith), turn.begins _ _)
+
+past-blanks-requires : tie.Need-past-blanks-requires Inv-loop μ-loop Inv-rows μ-rows
+past-blanks-requires c κs = search needs
+
+past-blanks-requires-2 : tie.Need-past-blanks-requires-2 Inv-loop μ-loop Inv-rows μ-rows
+past-blanks-requires-2 c κs = search needs
+
+agree-at-requires : tie.Need-agree-at-requires Inv-loop μ-loop Inv-rows μ-rows
+agree-at-requires c κs = search needs
+
+add-k : tie.Need-add-k Inv-loop μ-loop Inv-rows μ-rows
+add-k c = search needs
+
+rows-less : tie.Need-rows-less Inv-loop μ-loop Inv-rows μ-rows
+rows-less c = search needs
+
+rows-again : tie.Need-rows-again Inv-loop μ-loop Inv-rows μ-rows
+rows-again c =
+    let l = c .before .before .before .before .loop in
+    let o = c .before .before .before .before .before .before .before .before .rows in (
+      search needs,
+      rw (l .inv .0)
+          (miss _ _ _ _ (o .k) (o .inv .1) (c .before .before .before .before .before .before .before .if1 .left) (c .before .before .before .before .before .before .range-at .ensures)
+          (sym (turn.differ _ _ (l .i) (l .j) _ _ (c .before .before .before .past-blanks .ensures) (c .before .before .past-blanks2 .ensures) (c .before .agree-at .ensures) (l .inv .2) (not-true _ (c .if2 .taken))))),
+    )
+
+add-i : tie.Need-add-i Inv-loop μ-loop Inv-rows μ-rows
+add-i c = search needs
+
+add-j : tie.Need-add-j Inv-loop μ-loop Inv-rows μ-rows
+add-j c = omega (arith, turn.both-inside _ _ _ _ _ _ (c .before .before .agree-at .ensures) (not-false _ (c .before .if2 .left)) (c .if3 .left))
+
+loop-less : tie.Need-loop-less Inv-loop μ-loop Inv-rows μ-rows
+loop-less c = omega (arith, turn.past-from _ _ _ (c .before .before .before .before .past-blanks .ensures))
+
+loop-again : tie.Need-loop-again Inv-loop μ-loop Inv-rows μ-rows
+loop-again c =
+    let l = c .before .before .before .before .before .loop in
+    (search needs, search needs, turn.agreed _ _ (l .i) (l .j) _ _ (c .before .before .before .before .past-blanks .ensures) (c .before .before .before .past-blanks2 .ensures) (c .before .before .agree-at .ensures) (l .inv .2) (not-false _ (c .before .if2 .left)) (c .if3 .left))
+
+returns : tie.Need-returns Inv-loop μ-loop Inv-rows μ-rows
+returns c = none _ _ _ _ _ (c .before .rows .inv .1) (c .if1 .taken)
+
+returns-2 : tie.Need-returns-2 Inv-loop μ-loop Inv-rows μ-rows
+returns-2 c =
+    let l = c .before .before .before .before .before .loop in
+    let o = c .before .before .before .before .before .before .before .before .before .rows in
+    rw (l .inv .0)
+    (hit _ _ _ _ (o .k) (o .inv .1) (c .before .before .before .before .before .before .before .before .if1 .left) (c .before .before .before .before .before .before .before .range-at .ensures)
+    (sym (turn.both-over _ _ (l .i) (l .j) _ _ (c .before .before .before .before .past-blanks .ensures) (c .before .before .before .past-blanks2 .ensures) (c .before .before .agree-at .ensures) (l .inv .2) (not-false _ (c .before .if2 .left)) (c .if3 .taken))))
+
+pub lookup-spec : {M : Type 1} → statement M
+lookup-spec =
+    tie.close
+    (tie.spec
+    Inv-loop
+    μ-loop
+    Inv-rows
+    μ-rows
+    rows-holds
+    mul-range-at
+    range-at-requires
+    sub-own
+    part-own-start
+    part-own-end
+    loop-holds
+    past-blanks-requires
+    past-blanks-requires-2
+    agree-at-requires
+    add-k
+    rows-less
+    rows-again
+    add-i
+    add-j
+    loop-less
+    loop-again
+    returns
+    returns-2)

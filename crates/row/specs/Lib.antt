@@ -1,0 +1,4 @@
+pub mod Row
+pub mod First
+pub mod Reading
+pub mod Samples

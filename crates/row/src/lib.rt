@@ -1,0 +1,138 @@
+// The definition table: rows of six 32-bit numbers in a lent slice, and the lookup of a label in it.
+ghost use mathlib.Core.Path.{_≡_};
+ghost use Prim.Native.Nat.{_+_, _<_};
+ghost use lib.ListN.{length};
+ghost use Rattle.row.specs.Row.{range, absent, definition, SmallPart, Small, wholeRows, storedRange, stored};
+ghost use Rattle.row.specs.Reading.{rangeAt, definitionAt, Fit, rowOf};
+use scan::Found;
+
+// A part of the note: where it starts, and where it ends. An absent part is 0 and 0.
+pub struct Range {
+    pub start: usize,
+    pub end: usize,
+}
+
+// The parts of a link reference definition, without their delimiters.
+pub struct Definition {
+    pub label: Range,
+    pub destination: Range,
+    pub title: Range,
+}
+
+impl Range {
+    pub fn new(start: usize, end: usize) -> Range
+        ensures { λ r. ⌜ r ≡ range start end ⌝ }
+    {
+        Range { start, end }
+    }
+
+    pub fn absent() -> Range
+        ensures { λ r. ⌜ r ≡ absent ⌝ }
+    {
+        Range { start: 0, end: 0 }
+    }
+}
+
+impl Definition {
+    // The numbers of a row.
+    pub const WIDTH: usize = 6;
+
+    pub fn new(label: Range, destination: Range, title: Range) -> Definition
+        ensures { λ r. ⌜ r ≡ definition label destination title ⌝ }
+    {
+        Definition {
+            label,
+            destination,
+            title,
+        }
+    }
+}
+
+// The whole rows that the table has room for.
+pub fn whole_rows(table: &[u32]) -> usize
+    ensures { λ r. ⌜ r ≡ wholeRows (now (table .entry)) ⌝ }
+{
+    table.len() / Definition::WIDTH
+}
+
+// Stores the start and the end of a part at `at`.
+fn store_range(table: &mut [u32], at: usize, r: Range)
+    requires { ⌜ at + 1 < length (now table) ⌝ }
+    requires { ⌜ SmallPart r ⌝ }
+    ensures { λ _. ⌜ now (table .exit) ≡ storedRange (now (table .entry)) at r ⌝ }
+{
+    table[at] = r.start as u32;
+    table[at + 1] = r.end as u32;
+}
+
+// Stores the row of a definition as row `k` if it fits, and else leaves the table as it was.
+pub fn store(table: &mut [u32], k: usize, d: Definition)
+    requires { ⌜ Small d ⌝ }
+    ensures { λ _. ⌜ now (table .exit) ≡ stored (now (table .entry)) k d ⌝ }
+{
+    if k < whole_rows(table) {
+        let at = k * Definition::WIDTH;
+        store_range(table, at, d.label);
+        store_range(table, at + 2, d.destination);
+        store_range(table, at + 4, d.title);
+    }
+}
+
+// The part whose start and end stand at `at`.
+fn range_at(table: &[u32], at: usize) -> Range
+    requires { ⌜ at + 1 < length (now table) ⌝ }
+    ensures { λ r. ⌜ r ≡ rangeAt (now (table .entry)) at ⌝ }
+{
+    Range {
+        start: table[at] as usize,
+        end: table[at + 1] as usize,
+    }
+}
+
+// The definition whose row is row `k`.
+pub fn definition_at(table: &[u32], k: usize) -> Definition
+    requires { ⌜ k < wholeRows (now table) ⌝ }
+    ensures { λ r. ⌜ r ≡ definitionAt (now (table .entry)) k ⌝ }
+{
+    let at = k * Definition::WIDTH;
+    let label = range_at(table, at);
+    let destination = range_at(table, at + 2);
+    let title = range_at(table, at + 4);
+    Definition {
+        label,
+        destination,
+        title,
+    }
+}
+
+// The first of `count` rows whose label equals `label`.
+pub fn lookup(note: &[u8], table: &[u32], count: usize, label: &[u8]) -> Found
+    requires { ⌜ Fit (now note) (now table) count ⌝ }
+    ensures { λ r. ⌜ r ≡ rowOf (now (note .entry)) (now (table .entry)) (now (label .entry)) count ⌝ }
+{
+    let mut k = 0;
+    'rows: loop {
+        if count <= k {
+            break Found::Nothing;
+        }
+        let part = range_at(table, k * Definition::WIDTH);
+        let start = part.start;
+        let end = part.end;
+        let own = &note[start..end];
+        let mut i = 0;
+        let mut j = 0;
+        loop {
+            let p = matching::past_blanks(own, i);
+            let q = matching::past_blanks(label, j);
+            if !matching::agree_at(own, label, i, j, p, q) {
+                k += 1;
+                continue 'rows;
+            }
+            if own.len() <= p {
+                break 'rows Found::At(k);
+            }
+            i = p + 1;
+            j = q + 1;
+        }
+    }
+}
