@@ -7,5 +7,4 @@ pub mod Takings
 pub mod Paragraphs
 pub mod Notes
 pub mod NotePlaces
-pub mod Turns
 pub mod NoteEnds

@@ -1,0 +1,86 @@
+-- The turns of a loop that stores a note's definitions one after the other.
+use Prim.Native.Nat.{ℕ, _+_, _-_, _≤_, _<_, _^_}
+use native.Mathlib.Omega.{arith}
+use mathlib.Core.Path.{_≡_, refl, sym, ap, _∙_}
+use mathlib.Core.List.{List, [], _∷_, _++_, append-assoc, append-nil, List·Memᴰ, List·Memᴰ·head, Memᴰ·append-right}
+use lib.ListN.{length, length-append}
+use Rattle.row.specs.declared.Definition.{Definition}
+use Rattle.row.specs.Row.{Small, filled, stored}
+use Rattle.row.proofs.Filled.{filled-none, length-filled, store-next}
+use Rattle.definition.specs.Reading.{definitions}
+use Rattle.definition.proofs.NotePlaces.{definitions-inside}
+use Rattle.walk.specs.declared.Cursor.{Cursor}
+use Rattle.walk.specs.declared.Next.{Next}
+use Rattle.walk.specs.declared.Next.the-variants as next
+use Rattle.walk.specs.Walk.{definitionsAfter, Within, FirstDefinition, IsNext}
+use Rattle.walk.proofs.Steps.{cursor}
+use Rattle.walk.proofs.Whole.{all-definitions}
+
+-- reading stands at c, and k definitions are passed; the table t₀ has become t
+pub record Filling (note t₀ t : List ℕ) (k : ℕ) (c : Cursor) : Type 0 where
+  pub passed : List Definition
+  pub whole : definitions note ≡ passed ++ definitionsAfter note c
+  pub counted : k ≡ length passed
+  pub table : t ≡ filled passed t₀
+  pub within : Within note c
+  pub bound : k ≤ c .at
+
+module _ (note t₀ : List ℕ) where
+  pub starts : Filling note t₀ t₀ 0 (cursor 0 0)
+  starts = record {
+    passed = [];
+    whole = sym (all-definitions note);
+    counted = refl;
+    table = sym (filled-none t₀);
+    within = record { ordered = omega arith; inside = omega arith };
+    bound = omega arith;
+  }
+
+  module _ {t : List ℕ} {k : ℕ} {c : Cursor} (f : Filling note t₀ t k c) where
+    pub stands-there : Within note c
+    stands-there = f .within
+
+    pub same-size : length t ≡ length t₀
+    same-size = ap length (f .table) ∙ length-filled (f .passed) t₀
+
+    pub all-counted : {x : Next} → IsNext note c x → x ≡ next.End → k ≡ length (definitions note)
+    all-counted n e =
+        let none : definitionsAfter note c ≡ [] = rw e at n in
+        f .counted ∙ sym (ap length (f .whole ∙ ap (λ (l : List Definition). f .passed ++ l) none ∙ append-nil (f .passed)))
+
+    pub all-stored : {x : Next} → IsNext note c x → x ≡ next.End → t ≡ filled (definitions note) t₀
+    all-stored n e =
+        let none : definitionsAfter note c ≡ [] = rw e at n in
+        f .table ∙ sym (ap (λ (l : List Definition). filled l t₀) (f .whole ∙ ap (λ (l : List Definition). f .passed ++ l) none ∙ append-nil (f .passed)))
+
+    module _ {x : Next} (n : IsNext note c x) {d : Definition} {c′ : Cursor} (e : x ≡ next.Definition d c′) where
+      here : FirstDefinition note c d c′
+      here = rw e at n
+
+      in-note : List·Memᴰ d (definitions note)
+      in-note = rw (f .whole, here .first) (Memᴰ·append-right (f .passed) (List·Memᴰ·head refl))
+
+      pub small : length note < 2 ^ 32 → Small d
+      small h =
+          let m = definitions-inside note d in-note in
+          record {
+            label = record { start = omega (arith, m .label-start); end = omega (arith, m .label-end) };
+            destination = record { start = omega (arith, m .destination-start); end = omega (arith, m .destination-end) };
+            title = record { start = omega (arith, m .title-start); end = omega (arith, m .title-end) };
+          }
+
+      pub count-fits : k < length note
+      count-fits = omega (arith, f .bound, here .onward, here .within .ordered, here .within .inside)
+
+      pub less : length note - c′ .at < length note - c .at
+      less = omega (arith, here .onward, here .within .ordered, here .within .inside)
+
+      pub further : {t′ : List ℕ} → t′ ≡ stored t k d → Filling note t₀ t′ (k + 1) c′
+      further q = record {
+        passed = f .passed ++ d ∷ [];
+        whole = f .whole ∙ ap (λ (l : List Definition). f .passed ++ l) (here .first) ∙ sym (append-assoc (f .passed) (d ∷ []) (definitionsAfter note c′));
+        counted = omega (arith, f .counted, length-append (f .passed) (d ∷ []));
+        table = q ∙ store-next (f .passed) d t₀ (f .table) (f .counted);
+        within = here .within;
+        bound = omega (arith, f .bound, here .onward);
+      }
