@@ -2,82 +2,43 @@
 use Prim.Native.Nat.{ℕ, zero, suc, _+_, _*_, _≤_, _<_}
 use native.Mathlib.Numerals.{add-one}
 use native.Mathlib.Omega.{arith}
-use mathlib.Core.Path.{_≡_, refl, sym, ap, ap₂, subst⁻¹, _∙_}
+use mathlib.Core.Path.{_≡_, refl, ap, ap₂, subst⁻¹, _∙_}
 use mathlib.Core.List.{List, [], _∷_, _++_}
 use mathlib.Core.Logic.{_↔_}
-use borrow.Author.Tests.{ltb-true, ltb-false}
-use lib.Dec.{ltb}
-use lib.ListN.{length, getD, take, drop, length-append, length-take, length-drop}
-use lib.Seq.{take-all, take-nil, take-at, take-append-le, drop-append-add, drop-drop, getD-append-add}
-use Rattle.scan.specs.Test.{by}
+use lib.ListN.{length, getD, drop}
+use lib.Seq.{getD-append-add}
 use Rattle.scan.specs.declared.Found.the-variants.{At, Nothing}
+use Rattle.rows.specs.Rows
+use Rattle.rows.proofs.Filled
 use Rattle.row.specs.declared.Definition.{Definition}
 use Rattle.row.specs.Row.{range, width, numbers, rows, wholeRows, filled, stored}
 use Rattle.row.specs.First.{labelsOf, FirstEqual, NoneEqual}
 use Rattle.row.specs.Reading.{rangeAt, definitionAt, definitionsFrom, firstMatch, rowOf, Within, Fit}
-use Rattle.row.proofs.Put.{no-row, row-put}
 use Rattle.row.proofs.First.{first-equal, none-equal}
 
--- ---- rows
+-- ---- rows, and the table that they fill
+wide : (d : Definition) → length (numbers d) ≡ width
+wide d = refl
+
 pub length-rows : (ds : List Definition) → length (rows ds) ≡ length ds * width
-unfolding rows
-length-rows [] = refl
-length-rows (d ∷ ds) = let e = length-rows ds in omega arith
+length-rows = Filled.length-rows width numbers wide
 
-rows-more : (ds : List Definition) (d : Definition) → rows (ds ++ d ∷ []) ≡ rows ds ++ numbers d
-unfolding rows
-rows-more [] d = refl
-rows-more (e ∷ ds) d = ap (λ (l : List ℕ). numbers e ++ l) (rows-more ds d)
-
--- ---- filling
 pub filled-empty : (ds : List Definition) → filled ds [] ≡ []
-unfolding filled rows
-filled-empty ds = refl
+filled-empty = Filled.filled-empty width numbers
 
 pub filled-none : (t : List ℕ) → filled [] t ≡ t
-unfolding filled rows
-filled-none t = rw take-nil
+filled-none = Filled.filled-none width numbers
 
 pub length-filled : (ds : List Definition) (t : List ℕ) → length (filled ds t) ≡ length t
-unfolding filled
-length-filled ds t =
-    let u = take (wholeRows t) ds in
-    let n : length u ≤ wholeRows t = rw (length-take (wholeRows t) ds) (omega arith) in
-    rw (length-append, length-drop) (omega (arith, length-rows u))
+length-filled = Filled.length-filled width numbers wide
 
 -- where all of them fit
 pub filled-whole : (ds : List Definition) (t : List ℕ) → length ds ≤ wholeRows t → filled ds t ≡ rows ds ++ drop (length ds * width) t
-unfolding filled
-filled-whole ds t h = rw (take-all (wholeRows t) ds h, length-rows ds)
-
-drop-row : (l t : List ℕ) (n : ℕ) → length l ≡ n → drop (n + width) (l ++ drop n t) ≡ drop (n + width) t
-drop-row l t n e = rw (← e) (drop-append-add l (drop (length l) t) width ∙ drop-drop width (length l) t)
-
-next-fits : (ds : List Definition) (d : Definition) (t : List ℕ) → length ds < wholeRows t → stored (filled ds t) (length ds) d ≡ filled (ds ++ d ∷ []) t
-next-fits ds d t h =
-    let q : length ds < wholeRows (filled ds t) = rw (length-filled ds t) h in
-    let m : length (ds ++ d ∷ []) ≡ suc (length ds) = rw length-append (omega arith) in
-    let e : length (ds ++ d ∷ []) * width ≡ length ds * width + width = omega arith in
-    row-put (filled ds t) (length ds) d q
-    ∙ rw (
-      filled-whole ds t (omega arith),
-      filled-whole (ds ++ d ∷ []) t (omega arith),
-      rows-more,
-      e,
-      drop-row (rows ds) t (length ds * width) (length-rows ds),
-      take-at (rows ds) (drop (length ds * width) t) (length ds * width) (length-rows ds),
-    )
-
-next-over : (ds : List Definition) (d : Definition) (t : List ℕ) → wholeRows t ≤ length ds → stored (filled ds t) (length ds) d ≡ filled (ds ++ d ∷ []) t
-unfolding filled
-next-over ds d t h =
-    sym (no-row (filled ds t) (length ds) d (rw (length-filled ds t) h)) ∙ rw (take-append-le (wholeRows t) ds (d ∷ []) h)
+filled-whole = Filled.filled-whole width numbers wide
 
 -- a definition more, stored as the next row
 pub store-next : (ds : List Definition) (d : Definition) (t₀ : List ℕ) {t : List ℕ} {k : ℕ} → t ≡ filled ds t₀ → k ≡ length ds → stored t k d ≡ filled (ds ++ d ∷ []) t₀
-store-next ds d t₀ et ek =
-    rw (et, ek)
-    (by (ltb (length ds) (wholeRows t₀)) (λ e. next-fits ds d t₀ (ltb-true _ _ e)) (λ e. next-over ds d t₀ (ltb-false _ _ e)))
+store-next = Filled.store-next width numbers wide
 
 -- ---- reading back: past a row, each row is the next of what is left
 module _ (d : Definition) (t : List ℕ) where
@@ -102,12 +63,12 @@ module _ (d : Definition) (t : List ℕ) where
   definitions-past (suc n) k = ap₂ (λ (x : Definition) (l : List Definition). x ∷ l) (definition-past k) (definitions-past n (k + 1))
 
 rows-back : (ds : List Definition) (t : List ℕ) → definitionsFrom (rows ds ++ t) 0 (length ds) ≡ ds
-unfolding definitionsFrom rows
+unfolding definitionsFrom Rows.rows
 rows-back [] t = refl
 rows-back (d ∷ ds) t = ap (λ (l : List Definition). d ∷ l) (definitions-past d (rows ds ++ t) (length ds) 0 ∙ rows-back ds t)
 
 row-back : (ds : List Definition) (t : List ℕ) (k : ℕ) (o : Definition) → k < length ds → definitionAt (rows ds ++ t) k ≡ getD ds k o
-unfolding rows
+unfolding Rows.rows
 row-back [] t k o h = absurd (omega arith)
 row-back (d ∷ ds) t zero o h = refl
 row-back (d ∷ ds) t (suc k) o h = rw (← add-one k) (definition-past d (rows ds ++ t) k) ∙ row-back ds t k o (omega arith)

@@ -1,9 +1,7 @@
 -- Definition rows, and what a table holds.
-use Prim.Native.Nat.{ℕ, _+_, _*_, _/_, _<_, _^_}
-use mathlib.Core.List.{List, [], _∷_, _++_}
-use mathlib.Core.Bool.{cond}
-use lib.ListN.{length, take, drop}
-use lib.Dec.{ltb}
+use Prim.Native.Nat.{ℕ, _<_, _^_}
+use mathlib.Core.List.{List, [], _∷_}
+use Rattle.rows.specs.Rows
 use Rattle.row.specs.declared.Range.{Range}
 use Rattle.row.specs.declared.Definition.{Definition}
 
@@ -27,17 +25,16 @@ numbers d =
     d .label .start ∷ d .label .end ∷ d .destination .start ∷ d .destination .end ∷ d .title .start ∷ d .title .end ∷ []
 
 -- "All definitions stand there in note order, repeats too."
-unfoldable pub rows : List Definition → List ℕ
-rows [] = []
-rows (d ∷ ds) = numbers d ++ rows ds
+abbrev pub rows : List Definition → List ℕ
+rows = Rows.rows numbers
 
 -- "fewer whole definition rows lent than definitions"
 abbrev pub wholeRows : List ℕ → ℕ
-wholeRows t = length t / width
+wholeRows t = Rows.wholeRows width t
 
--- The table t after as many of these rows as fit were put in front: "numbers .. past the part in use are unchanged".
-unfoldable pub filled : List Definition → List ℕ → List ℕ
-filled ds t = let used = rows (take (wholeRows t) ds) in used ++ drop (length used) t
+-- the table after as many of these rows as fit were put in front
+abbrev pub filled : List Definition → List ℕ → List ℕ
+filled = Rows.filled width numbers
 
 -- ---- one row
 -- a part's places are 32-bit numbers
@@ -50,13 +47,9 @@ pub record Small (d : Definition) : Type 0 where
   pub destination : SmallPart (d .destination)
   pub title : SmallPart (d .title)
 
--- the list t with the numbers l in place of those from `at` on
-abbrev pub put : List ℕ → ℕ → List ℕ → List ℕ
-put t at l = take at t ++ l ++ drop (at + length l) t
-
 abbrev pub storedRange : List ℕ → ℕ → Range → List ℕ
-storedRange t at r = put t at (r .start ∷ r .end ∷ [])
+storedRange t at r = Rows.put t at (r .start ∷ r .end ∷ [])
 
--- the table t with the row of d as row k, if there is one
-unfoldable pub stored : List ℕ → ℕ → Definition → List ℕ
-stored t k d = cond (ltb k (wholeRows t)) (put t (k * width) (numbers d)) t
+-- the table with the row of a definition as row k, if there is one
+abbrev pub stored : List ℕ → ℕ → Definition → List ℕ
+stored = Rows.stored width numbers

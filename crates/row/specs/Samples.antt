@@ -10,7 +10,8 @@ use Rattle.scan.specs.declared.Found.the-variants.{At, Nothing}
 use Rattle.matching.specs.Form.{fold}
 use Rattle.matching.specs.Reading.{spaced, formOf, compared, equals, matches}
 use Rattle.row.specs.declared.Definition.{Definition}
-use Rattle.row.specs.Row.{range, absent, definition, numbers, rows, filled}
+use Rattle.rows.specs.Rows
+use Rattle.row.specs.Row.{range, absent, definition, numbers, filled}
 use Rattle.row.specs.Reading.{matchFrom, firstMatch, definitionsFrom, rowOf}
 
 -- ---- rows
@@ -41,7 +42,7 @@ pub record Tables : Type 0 where
   pub two-and-more : table 13 ≡ 1 ∷ 4 ∷ 7 ∷ 14 ∷ 16 ∷ 20 ∷ 23 ∷ 26 ∷ 29 ∷ 36 ∷ 0 ∷ 0 ∷ 9 ∷ []
 
 pub tables : Tables
-unfolding filled rows
+unfolding Rows.filled Rows.rows
 tables = record { none = refl; short = refl; one = refl; one-and-more = refl; two = refl; two-and-more = refl }
 
 -- ---- lookups
@@ -65,5 +66,5 @@ abbrev note : List ℕ
 note = ascii "[max]: /q2/max \"June\"\n[max]: /q2/max"
 
 pub note-lookup : rowOf note (table 13) (ascii "Max") 2 ≡ At 0
-unfolding filled rows definitionsFrom rowOf fold spaced formOf compared equals matches matchFrom
+unfolding Rows.filled Rows.rows definitionsFrom rowOf fold spaced formOf compared equals matches matchFrom
 note-lookup = refl

@@ -56,7 +56,7 @@ pub fn whole_rows(table: &[u32]) -> usize
 }
 
 // Stores the start and the end of a part at `at`.
-fn store_range(table: &mut [u32], at: usize, r: Range)
+pub fn store_range(table: &mut [u32], at: usize, r: Range)
     requires { ⌜ at + 1 < length (now table) ⌝ }
     requires { ⌜ SmallPart r ⌝ }
     ensures { λ _. ⌜ now (table .exit) ≡ storedRange (now (table .entry)) at r ⌝ }

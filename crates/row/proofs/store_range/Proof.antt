@@ -1,6 +1,6 @@
 -- The two stores are one part put.
 use borrow.Author.Needs.{needs}
-use Rattle.row.proofs.Put.{put-two}
+use Rattle.rows.proofs.Put.{put-two}
 use Rattle.row.proofs.store_range.Statement.{statement}
 use Rattle.row.proofs.store_range.Tie as tie
 

@@ -1,0 +1,77 @@
+-- Span rows, and what a table of them holds.
+use Prim.Native.Nat.{ℕ, _+_, _<_, _^_}
+use mathlib.Core.List.{List, [], _∷_}
+use Rattle.rows.specs.Rows
+use Rattle.row.specs.declared.Range.{Range}
+use Rattle.row.specs.Row.{absent, SmallPart}
+use Rattle.span.specs.declared.Span.{Span}
+
+-- "Span table, ten 32-bit numbers a row"
+abbrev pub width : ℕ
+width = 10
+
+-- "kind, start, end, text start, text end, definition number (from 1; 0 if none), destination start and end, title start and end"
+abbrev pub numbers : Span → List ℕ
+numbers s =
+    s .kind
+    ∷ s .whole .start
+    ∷ s .whole .end
+    ∷ s .text .start
+    ∷ s .text .end
+    ∷ s .definition
+    ∷ s .destination .start
+    ∷ s .destination .end
+    ∷ s .title .start
+    ∷ s .title .end
+    ∷ []
+
+-- ---- the five kinds: "1 code span, 2 inline, 3 full, 4 collapsed, 5 shortcut"
+abbrev pub span : ℕ → Range → Range → ℕ → Range → Range → Span
+span k w x n d t = record { kind = k; whole = w; text = x; definition = n; destination = d; title = t }
+
+abbrev pub codeSpan : Range → Range → Span
+codeSpan whole text = span 1 whole text 0 absent absent
+
+abbrev pub inline : Range → Range → Range → Range → Span
+inline whole text destination title = span 2 whole text 0 destination title
+
+-- The definition in row k of the definition table, where rows count from 0, has the number k + 1.
+abbrev pub reference : ℕ → Range → Range → ℕ → Range → Range → Span
+reference kind whole text k destination title = span kind whole text (k + 1) destination title
+
+abbrev pub full : Range → Range → ℕ → Range → Range → Span
+full = reference 3
+
+abbrev pub collapsed : Range → Range → ℕ → Range → Range → Span
+collapsed = reference 4
+
+abbrev pub shortcut : Range → Range → ℕ → Range → Range → Span
+shortcut = reference 5
+
+-- ---- tables
+abbrev pub rows : List Span → List ℕ
+rows = Rows.rows numbers
+
+-- "fewer whole span rows lent than spans"
+abbrev pub wholeRows : List ℕ → ℕ
+wholeRows t = Rows.wholeRows width t
+
+-- the table after as many of these rows as fit were put in front
+abbrev pub filled : List Span → List ℕ → List ℕ
+filled = Rows.filled width numbers
+
+-- a number and the two parts after it: the first five numbers of a row, or the last five
+abbrev pub storedHalf : List ℕ → ℕ → ℕ → Range → Range → List ℕ
+storedHalf t at n a b = Rows.put t at (n ∷ a .start ∷ a .end ∷ b .start ∷ b .end ∷ [])
+
+-- the table with the row of a span as row k, if there is one
+abbrev pub stored : List ℕ → ℕ → Span → List ℕ
+stored = Rows.stored width numbers
+
+-- a span's places and its definition's number are 32-bit numbers
+pub record Small (s : Span) : Type 0 where
+  pub whole : SmallPart (s .whole)
+  pub text : SmallPart (s .text)
+  pub definition : s .definition < 2 ^ 32
+  pub destination : SmallPart (s .destination)
+  pub title : SmallPart (s .title)
