@@ -1,0 +1,12 @@
+pub mod Ticks
+pub mod CodeSpans
+pub mod Starting
+pub mod Gaps
+pub mod InlineSteps
+pub mod InlineComplete
+pub mod InlineSound
+pub mod Tailing
+pub mod Computing
+pub mod Demand3
+pub mod SpanBounds
+pub mod SpanRows

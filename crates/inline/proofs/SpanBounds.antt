@@ -1,0 +1,152 @@
+-- Where the spans of a marking stand: within the paragraph, the text within the span, an inline link's destination and title within its tail.
+use Prim.Native.Nat.{ℕ, zero, suc, _+_, _-_, _≤_}
+use native.Mathlib.Omega.{arith}
+use mathlib.Core.Path.{_≡_, refl, sym, ap, _∙_}
+use mathlib.Core.Option.{Option, Option·some-injective, Option·none-ne-some}
+use mathlib.Core.List.{List, [], _∷_}
+use lib.ListN.{length, drop}
+use lib.Dec.{eqb}
+use Rattle.scan.specs.Scan.{run}
+use Rattle.scan.specs.Every.{run-iff}
+use Rattle.scan.specs.Test.{by}
+use Rattle.marking.specs.Marking.{code, closing, role, Piece, Marking, At, Tiles, Paired, tailPiece, Meets}
+use Rattle.marking.specs.Spans.{Span, codeSpan, linkSpan, SpanOf, CodeOf, LinkOf}
+use Rattle.marking.proofs.Roles.{nothing≢trailing, closing≢trailing}
+use Rattle.marking.proofs.Tiles.{tiles-order}
+use Rattle.marking.proofs.Pairs.{link-pair}
+use Rattle.row.specs.declared.Definition.{Definition}
+use Rattle.row.specs.declared.Range.{Range}
+use Rattle.row.specs.Row.{range}
+use Rattle.inline.specs.Pieces.{backtick, Backticks, MaximalRun, Starts, an-escape, code-span, backticks, opening, closing as closes, other}
+use Rattle.inline.specs.PieceBounds.{sized}
+use Rattle.inline.specs.Tails.{Tail, inline, lengthOf, Inline, empty, untitled, titled, TailOf, first, second, third, third-alone}
+use Rattle.inline.specs.References.{moved}
+use Rattle.inline.specs.TailBounds.{PartIn, inlineOf-within}
+use Rattle.inline.specs.Paragraph.{rules}
+use Rattle.inline.specs.Rows.{wholeOf, textOf, targetOf, PartBetween}
+use Rattle.inline.proofs.Starting.{starts-iff}
+use Rattle.inline.proofs.InlineComplete.{ReadAs, inline-read}
+
+-- ---- pieces
+tiles-up : (a b : ℕ) (ps : List Piece) → Tiles a ps b → a ≤ b
+tiles-up a b [] t = omega arith
+tiles-up a b (x ∷ ps) t = omega (arith, t .0, t .1, tiles-up (x .end) b ps (t .2))
+
+piece-within : (a b : ℕ) (ps : List Piece) (k : ℕ) (q : Piece) → Tiles a ps b → At ps k q → (a ≤ q .start) × (q .start ≤ q .end) × (q .end ≤ b)
+piece-within a b [] k q t h = absurd (Option·none-ne-some q h)
+piece-within a b (x ∷ ps) zero q t h = rw (← Option·some-injective x q h) (omega (arith, t .0), t .1, tiles-up (x .end) b ps (t .2))
+piece-within a b (x ∷ ps) (suc k) q t h = let i = piece-within (x .end) b ps k q (t .2) h in (omega (arith, t .0, t .1, i .0), i .1, i .2)
+
+-- ---- spans
+-- "For a code span the text lies between the backtick strings"
+pub record BetweenStrings (p : List ℕ) (q : Piece) : Type 0 where
+  pub count : ℕ
+  pub opening-string : Backticks p (q .start) count
+  pub text-is : textOf p (codeSpan q) ≡ range (q .start + count) (q .end - count)
+  pub closing-string : MaximalRun p (q .end - count) count
+  pub apart : q .start + count + count ≤ q .end
+
+between-strings : (p : List ℕ) {q : Piece} → Starts p q → q .kind ≡ code → BetweenStrings p q
+between-strings p (code-span {a} {n} {b} r f) k =
+    let e : run backtick (drop a p) ≡ n = run-iff backtick (drop a p) n .1 (r .run) in
+    let z : b ≡ b + n - n = omega arith in
+    record { count = n; opening-string = r; text-is = rw e; closing-string = rw (← z) (f .run); apart = omega (arith, f .later) }
+between-strings p (an-escape e) k = let z : _≡_ {A = ℕ} 0 1 = cc in absurd (omega arith)
+between-strings p (backticks r f) k = let z : _≡_ {A = ℕ} 0 1 = cc in absurd (omega arith)
+between-strings p (opening e) k = let z : _≡_ {A = ℕ} 0 1 = cc in absurd (omega arith)
+between-strings p (closes e) k = let z : _≡_ {A = ℕ} 0 1 = cc in absurd (omega arith)
+between-strings p (other h e m) k = let z : _≡_ {A = ℕ} 0 1 = cc in absurd (omega arith)
+
+pub record SpanWithin (p : List ℕ) (x : Span Tail) : Type 0 where
+  pub text-from : wholeOf x .start ≤ textOf p x .start
+  pub text-ordered : textOf p x .start ≤ textOf p x .end
+  pub text-to : textOf p x .end ≤ wholeOf x .end
+  pub to : wholeOf x .end ≤ length p
+
+module _ (p : List ℕ) (labels : List (List ℕ)) (m : Marking Tail) (c : Meets (rules p labels) m) where
+  pub code-text : (q : Piece) → CodeOf m q → BetweenStrings p q
+  code-text q x = between-strings p (c .kinds (x .index) q (x .at) (λ t. nothing≢trailing (ap role (sym (x .is-code)) ∙ t))) (x .is-code)
+
+  code-within : (q : Piece) → CodeOf m q → SpanWithin p (codeSpan q)
+  code-within q x =
+      let w = piece-within 0 (length p) (m .pieces) (x .index) q (c .tiled) (x .at) in
+      let b = code-text q x in
+      let e : run backtick (drop (q .start) p) ≡ b .count = run-iff backtick (drop (q .start) p) (b .count) .1 (b .opening-string .run) in
+      record { text-from = omega arith; text-ordered = omega (arith, b .apart); text-to = omega arith; to = w .2 }
+
+  link-within : (o d : Piece) (t : Tail) → LinkOf m o d t → SpanWithin p (linkSpan o d t)
+  link-within o d t x =
+      let pair : Paired (m .pieces) (x .from) (x .to) = link-pair c (x .from) (x .to) t (x .linked) in
+      let w = tiles-order 0 (length p) (m .pieces) (x .from) (x .to) o d (c .tiled) (x .open-at) (x .close-at) (pair .before) in
+      let v = piece-within 0 (length p) (m .pieces) (x .to) d (c .tiled) (x .close-at) in
+      let tail-at : At (m .pieces) (suc (x .to)) (tailPiece d (lengthOf t)) = c .tails (x .from) (x .to) t d (x .linked) (x .close-at) in
+      let u = piece-within 0 (length p) (m .pieces) (suc (x .to)) (tailPiece d (lengthOf t)) (c .tiled) tail-at in
+      record { text-from = w .0; text-ordered = w .1; text-to = omega arith; to = u .2 }
+
+  pub span-within : (x : Span Tail) → SpanOf m x → SpanWithin p x
+  span-within (codeSpan q) s = code-within q s
+  span-within (linkSpan o d t) s = link-within o d t s
+
+-- ---- the destination and the title of an inline link
+moved-between : (at n : ℕ) (r : Range) → PartIn r n → PartBetween at (at + n) (moved at r)
+moved-between at n r i = by (eqb (r .start) 0) (λ e. rw e tt) (λ e. rw e (omega arith, omega (arith, i .ordered), omega (arith, i .inside)))
+
+read-between : (s : List ℕ) (at n : ℕ) (d t : Option Range) → ReadAs s at (inline n d t) → PartBetween at (at + n) d × PartBetween at (at + n) t
+read-between s at n d t r =
+    let q = r .found in
+    let w = inlineOf-within s q (r .reads) in
+    let en : q .size ≡ n = sized-as (r .is) in
+    let ed : moved at (q .destination) ≡ d = first-as (r .is) in
+    let et : moved at (q .title) ≡ t = second-as (r .is) in
+    rw (← en, ← ed, ← et) (moved-between at (q .size) (q .destination) (w .destination), moved-between at (q .size) (q .title) (w .title))
+  where
+    sized-as : {n m : ℕ} {d e t u : Option Range} → inline n d t ≡ inline m e u → n ≡ m
+    sized-as e = cc
+
+    first-as : {n m : ℕ} {d e t u : Option Range} → inline n d t ≡ inline m e u → d ≡ e
+    first-as e = cc
+
+    second-as : {n m : ℕ} {d e t u : Option Range} → inline n d t ≡ inline m e u → t ≡ u
+    second-as e = cc
+
+-- only the first rule gives an inline tail
+inline-only : {labels : List (List ℕ)} {text s : List ℕ} {at : ℕ} {x : Tail} → TailOf labels text s at x → {n : ℕ} {d t : Option Range} → x ≡ inline n d t → Inline s at x
+inline-only (first i) e = i
+inline-only (second l a b f) e = let z : _≡_ {A = ℕ} 0 1 = cc in absurd (omega arith)
+inline-only (third a b l f k) e = let z : _≡_ {A = ℕ} 0 1 = cc in absurd (omega arith)
+inline-only (third-alone a b l f k) e = let z : _≡_ {A = ℕ} 0 1 = cc in absurd (omega arith)
+
+module _ (p : List ℕ) (labels : List (List ℕ)) (m : Marking Tail) (c : Meets (rules p labels) m) where
+  -- the closing piece of a link is one byte
+  close-end : (x : Piece) (j : ℕ) → At (m .pieces) j x → role (x .kind) ≡ closing → x .end ≡ x .start + 1
+  close-end x j a k =
+      let f = starts-iff p x .0 (c .kinds j x a (λ t. closing≢trailing (sym k ∙ t))) in
+      ap (λ (y : Piece). y .end) (sym (f .from)) ∙ sized p (x .start) (f .inside) .one-byte (ap (λ (y : Piece). role (y .kind)) (f .from) ∙ k)
+
+  -- they lie within its tail
+  pub inline-parts-within : (o x : Piece) (n : ℕ) (d t : Option Range) → LinkOf m o x (inline n d t)
+      → PartBetween (x .end) (x .end + n) d × PartBetween (x .end) (x .end + n) t
+  inline-parts-within o x n d t l =
+      let k = c .links-are (l .from) (l .to) (inline n d t) .0 (l .linked) .has-tail in
+      let pair : Paired (m .pieces) (l .from) (l .to) = link-pair c (l .from) (l .to) (inline n d t) (l .linked) in
+      let ex : pair .closed .piece ≡ x = Option·some-injective (pair .closed .piece) x (sym (pair .closed .at) ∙ l .close-at) in
+      let ek : k .close-piece ≡ x = Option·some-injective (k .close-piece) x (sym (k .close-at) ∙ l .close-at) in
+      let end : x .end ≡ x .start + 1 = close-end x (l .to) (l .close-at) (ap (λ (y : Piece). role (y .kind)) (sym ex) ∙ pair .closed .as-role) in
+      let r : ReadAs (drop (k .close-piece .start + 1) p) (k .close-piece .start + 1) (inline n d t) = inline-read _ _ (inline-only (k .reads) refl) in
+      rw (end, ← ek) (read-between (drop (k .close-piece .start + 1) p) (k .close-piece .start + 1) n d t r)
+
+-- ---- the definition of a reference
+tail-defined : {labels : List (List ℕ)} {text s : List ℕ} {at : ℕ} {t : Tail} (offset : ℕ) (ds : List Definition) (o x : Piece) → TailOf labels text s at t
+    → targetOf offset ds (linkSpan o x t) .number ≤ length labels
+tail-defined offset ds o x (first (empty b r i j)) = omega arith
+tail-defined offset ds o x (first (untitled b c m r n i j k)) = omega arith
+tail-defined offset ds o x (first (titled b c m q c′ a r n i j k l y)) = omega arith
+tail-defined offset ds o x (second l a b f) = omega (arith, f .within)
+tail-defined offset ds o x (third a b l f k) = omega (arith, f .within)
+tail-defined offset ds o x (third-alone a b l f k) = omega (arith, f .within)
+
+-- there is a definition of the number that a row gives
+pub number-defined : (p : List ℕ) (labels : List (List ℕ)) (m : Marking Tail) → Meets (rules p labels) m → (offset : ℕ) (ds : List Definition) (x : Span Tail) → SpanOf m x
+    → targetOf offset ds x .number ≤ length labels
+number-defined p labels m c offset ds (codeSpan q) s = omega arith
+number-defined p labels m c offset ds (linkSpan o x t) l = tail-defined offset ds o x (c .links-are (l .from) (l .to) t .0 (l .linked) .has-tail .reads)

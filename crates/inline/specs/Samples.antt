@@ -1,0 +1,90 @@
+-- Paragraphs and their span rows, by computation.
+use Prim.Native.Nat.{ℕ, _+_}
+use Prim.Native.String.{String}
+use mathlib.Core.Path.{_≡_, refl}
+use mathlib.Core.List.{List, [], _∷_, map}
+use mathlib.Core.Bool.{Bool, true, false, _&&_}
+use lib.Dec.{eqb}
+use Rattle.scan.specs.Ascii.{ascii}
+use Rattle.scan.specs.Scan.{scan as scanBytes, run}
+use Rattle.scan.specs.Closing.{closingStep, closing}
+use Rattle.text.specs.Reading.{onesFrom, leadingOnes, sequenceLength, characters}
+use Rattle.label.specs.Reading.{inky, fitsAfter, fits, labelEnd, unclosed, isLabel}
+use Rattle.target.specs.Reading.{spaceFrom, depthAfter, rawStep, rawRun, judged, destinationOf, closer, titleOf}
+use Rattle.matching.specs.Form.{fold}
+use Rattle.matching.specs.Reading.{spaced, formOf, compared, equals, matches}
+use Rattle.marking.specs.Scan.{spans, finish, scan, scanStep, scanFound, scanStart}
+use Rattle.row.specs.declared.Definition.{Definition}
+use Rattle.row.specs.Row.{range, absent}
+use Rattle.row.specs.Reading.{matchFrom}
+use Rattle.inline.specs.CodeSpan.{countAfter, runStep, runDone, closingRun}
+use Rattle.inline.specs.Start.{pieceFrom}
+use Rattle.inline.specs.Inline.{closedAt, afterDestination, inlineOf}
+use Rattle.inline.specs.References.{labelAfter, textTail, tailOf}
+use Rattle.inline.specs.Rows.{spanRows}
+
+-- a paragraph at place 1000 of the note, the labels of the definitions, and the rows
+pub record Sample : Type 0 where
+  pub text : String
+  pub labels : List String
+  pub rows : List (List ℕ)
+
+abbrev sample : String → List String → List (List ℕ) → Sample
+sample p ls rs = record { text = p; labels = ls; rows = rs }
+
+-- the k-th definition's destination stands from 100 * k + 10 to 100 * k + 20, its title from 100 * k + 30 to 100 * k + 40
+abbrev definitionsFrom : ℕ → List String → List Definition
+definitionsFrom h [] = []
+definitionsFrom h (l ∷ ls) = record { label = absent; destination = range (h + 10) (h + 20); title = range (h + 30) (h + 40) } ∷ definitionsFrom (h + 100) ls
+
+abbrev rowsOf : Sample → List (List ℕ)
+rowsOf s = spanRows 1000 (ascii (s .text)) (map ascii (s .labels)) (definitionsFrom 100 (s .labels))
+
+abbrev pub samples : List Sample
+samples =
+    -- inline
+    sample "[link]()" [] ((2 ∷ 1000 ∷ 1008 ∷ 1001 ∷ 1005 ∷ 0 ∷ 0 ∷ 0 ∷ 0 ∷ 0 ∷ []) ∷ [])
+    ∷ sample "[a](<b)c>)" [] ((2 ∷ 1000 ∷ 1010 ∷ 1001 ∷ 1002 ∷ 0 ∷ 1005 ∷ 1008 ∷ 0 ∷ 0 ∷ []) ∷ [])
+    ∷ sample "[link](foo\\)\\:)" [] ((2 ∷ 1000 ∷ 1015 ∷ 1001 ∷ 1005 ∷ 0 ∷ 1007 ∷ 1014 ∷ 0 ∷ 0 ∷ []) ∷ [])
+    ∷ sample "[link](/my uri)" [] []
+    ∷ sample "[foo](not a link)" [] []
+    ∷ sample "[a](<b>\"t\")" [] []
+    ∷ sample "[a](b \"t\")" [] ((2 ∷ 1000 ∷ 1010 ∷ 1001 ∷ 1002 ∷ 0 ∷ 1004 ∷ 1005 ∷ 1007 ∷ 1008 ∷ []) ∷ [])
+    ∷ sample "[a](<> \"\")" [] ((2 ∷ 1000 ∷ 1010 ∷ 1001 ∷ 1002 ∷ 0 ∷ 1005 ∷ 1005 ∷ 1008 ∷ 1008 ∷ []) ∷ [])
+    ∷ sample "[a](\nb\n'c'\n)" [] ((2 ∷ 1000 ∷ 1012 ∷ 1001 ∷ 1002 ∷ 0 ∷ 1005 ∷ 1006 ∷ 1008 ∷ 1009 ∷ []) ∷ [])
+    -- references
+    ∷ sample "[foo](not a link)" ("foo" ∷ []) ((5 ∷ 1000 ∷ 1005 ∷ 1001 ∷ 1004 ∷ 1 ∷ 110 ∷ 120 ∷ 130 ∷ 140 ∷ []) ∷ [])
+    ∷ sample "[foo [bar](/uri)][ref]" ("ref" ∷ []) ((2 ∷ 1005 ∷ 1016 ∷ 1006 ∷ 1009 ∷ 0 ∷ 1011 ∷ 1015 ∷ 0 ∷ 0 ∷ []) ∷ (5 ∷ 1017 ∷ 1022 ∷ 1018 ∷ 1021 ∷ 1 ∷ 110 ∷ 120 ∷ 130 ∷ 140 ∷ []) ∷ [])
+    ∷ sample "[foo][bar][baz]" ("baz" ∷ []) ((3 ∷ 1005 ∷ 1015 ∷ 1006 ∷ 1009 ∷ 1 ∷ 110 ∷ 120 ∷ 130 ∷ 140 ∷ []) ∷ [])
+    ∷ sample "[foo][bar][baz]" ("baz" ∷ "bar" ∷ []) ((3 ∷ 1000 ∷ 1010 ∷ 1001 ∷ 1004 ∷ 2 ∷ 210 ∷ 220 ∷ 230 ∷ 240 ∷ []) ∷ (5 ∷ 1010 ∷ 1015 ∷ 1011 ∷ 1014 ∷ 1 ∷ 110 ∷ 120 ∷ 130 ∷ 140 ∷ []) ∷ [])
+    ∷ sample "[foo][bar][baz]" ("baz" ∷ "foo" ∷ []) ((3 ∷ 1005 ∷ 1015 ∷ 1006 ∷ 1009 ∷ 1 ∷ 110 ∷ 120 ∷ 130 ∷ 140 ∷ []) ∷ [])
+    ∷ sample "[foo][ref\\[]" ("ref\\[" ∷ []) ((3 ∷ 1000 ∷ 1012 ∷ 1001 ∷ 1004 ∷ 1 ∷ 110 ∷ 120 ∷ 130 ∷ 140 ∷ []) ∷ [])
+    ∷ sample "[foo][]" ("Foo" ∷ "foo" ∷ []) ((4 ∷ 1000 ∷ 1007 ∷ 1001 ∷ 1004 ∷ 1 ∷ 110 ∷ 120 ∷ 130 ∷ 140 ∷ []) ∷ [])
+    ∷ sample "[foo][ ]" ("foo" ∷ []) ((5 ∷ 1000 ∷ 1005 ∷ 1001 ∷ 1004 ∷ 1 ∷ 110 ∷ 120 ∷ 130 ∷ 140 ∷ []) ∷ [])
+    -- code spans
+    ∷ sample "[foo`][ref]`" ("ref" ∷ []) ((1 ∷ 1004 ∷ 1012 ∷ 1005 ∷ 1011 ∷ 0 ∷ 0 ∷ 0 ∷ 0 ∷ 0 ∷ []) ∷ [])
+    ∷ sample "``a`b``" [] ((1 ∷ 1000 ∷ 1007 ∷ 1002 ∷ 1005 ∷ 0 ∷ 0 ∷ 0 ∷ 0 ∷ 0 ∷ []) ∷ [])
+    ∷ sample "`a``b`" [] ((1 ∷ 1000 ∷ 1006 ∷ 1001 ∷ 1005 ∷ 0 ∷ 0 ∷ 0 ∷ 0 ∷ 0 ∷ []) ∷ [])
+    ∷ sample "\\``a`" [] ((1 ∷ 1002 ∷ 1005 ∷ 1003 ∷ 1004 ∷ 0 ∷ 0 ∷ 0 ∷ 0 ∷ 0 ∷ []) ∷ [])
+    ∷ sample "`a\\``" [] []
+    ∷ []
+
+abbrev sameNumbers : List ℕ → List ℕ → Bool
+sameNumbers [] [] = true
+sameNumbers [] (y ∷ ys) = false
+sameNumbers (x ∷ xs) [] = false
+sameNumbers (x ∷ xs) (y ∷ ys) = eqb x y && sameNumbers xs ys
+
+abbrev sameRows : List (List ℕ) → List (List ℕ) → Bool
+sameRows [] [] = true
+sameRows [] (y ∷ ys) = false
+sameRows (x ∷ xs) [] = false
+sameRows (x ∷ xs) (y ∷ ys) = sameNumbers x y && sameRows xs ys
+
+abbrev hold : List Sample → Bool
+hold [] = true
+hold (s ∷ more) = sameRows (rowsOf s) (s .rows) && hold more
+
+pub samples-hold : hold samples ≡ true
+unfolding scanBytes run closingStep closing onesFrom leadingOnes sequenceLength characters inky fitsAfter fits labelEnd unclosed isLabel spaceFrom depthAfter rawStep rawRun judged destinationOf closer titleOf fold spaced formOf compared equals matches spans finish scan scanStep scanFound scanStart countAfter runStep runDone closingRun pieceFrom closedAt afterDestination inlineOf matchFrom labelAfter textTail tailOf
+samples-hold = refl

@@ -1,0 +1,90 @@
+-- A link or a code span in the marking of a paragraph: it is not empty, its closing bracket is one byte, and its tail is that of the rules.
+use Prim.Native.Nat.{ℕ, _+_, _-_, _≤_, _<_}
+use native.Mathlib.Omega.{arith}
+use mathlib.Core.Path.{_≡_, refl, sym, ap, _∙_, subst}
+use mathlib.Core.Option.{some, Option·some-injective}
+use mathlib.Core.List.{List}
+use lib.ListN.{length, getD, take, drop, getElem?}
+use Rattle.marking.specs.Marking.{role, Role, Piece, Marking, Plays, Paired, HasTail, Meets}
+use Rattle.marking.specs.Marking as roles
+use Rattle.marking.specs.Spans.{Span, codeSpan, linkSpan, SpanOf, CodeOf, LinkOf, In}
+use Rattle.marking.specs.Scan.{spans}
+use Rattle.marking.proofs.Roles.{nothing≢opening, nothing≢closing, nothing≢trailing, opening≢closing, opening≢trailing, closing≢opening, closing≢trailing}
+use Rattle.marking.proofs.Pairs.{link-pair}
+use Rattle.row.specs.declared.Definition.{Definition}
+use Rattle.inline.specs.Pieces.{Starts, an-escape, code-span, backticks, opening, closing, other}
+use Rattle.inline.specs.Tails.{Tail, TailOf}
+use Rattle.inline.specs.Paragraph.{rules}
+use Rattle.inline.specs.Grammar.{grammar}
+use Rattle.inline.specs.Rows.{spanRow, spanRows, rowEnd, RowWithin}
+use Rattle.inline.proofs.Demand3.{the-marking, the-marking-meets, its-spans-are-read}
+use Rattle.inline.proofs.SpanRows.{row-within}
+use Rattle.note.proofs.Members.{in-mapped}
+
+-- ---- pieces
+some-bytes : {p : List ℕ} {q : Piece} → Starts p q → q .start < q .end
+some-bytes (an-escape e) = omega arith
+some-bytes (code-span r f) = omega (arith, r .some, f .later)
+some-bytes (backticks r f) = omega (arith, r .some)
+some-bytes (opening e) = omega arith
+some-bytes (closing e) = omega arith
+some-bytes (other h e m) = omega arith
+
+one-byte : {p : List ℕ} {q : Piece} → Starts p q → role (q .kind) ≡ roles.closing → q .end ≡ q .start + 1
+one-byte (an-escape e) r = absurd (nothing≢closing r)
+one-byte (code-span t f) r = absurd (nothing≢closing r)
+one-byte (backticks t f) r = absurd (nothing≢closing r)
+one-byte (opening e) r = absurd (opening≢closing r)
+one-byte (closing e) r = refl
+one-byte (other h e m) r = absurd (nothing≢closing r)
+
+pub bracket-byte : {p : List ℕ} {q : Piece} → Starts p q → role (q .kind) ≡ roles.opening → getD p (q .start) 0 ≡ 91
+bracket-byte (an-escape e) r = absurd (nothing≢opening r)
+bracket-byte (code-span t f) r = absurd (nothing≢opening r)
+bracket-byte (backticks t f) r = absurd (nothing≢opening r)
+bracket-byte (opening e) r = e
+bracket-byte (closing e) r = absurd (closing≢opening r)
+bracket-byte (other h e m) r = absurd (nothing≢opening r)
+
+-- ---- spans
+-- what the conditions say of a link
+pub record LinkRead (p : List ℕ) (ls : List (List ℕ)) (o d : Piece) (t : Tail) : Type 0 where
+  pub some-bracket : o .start < o .end
+  pub one-bracket : d .end ≡ d .start + 1
+  pub reads : TailOf ls (take (d .start - o .end) (drop (o .end) p)) (drop (d .start + 1) p) (d .start + 1) t
+
+module _ (p : List ℕ) (ls : List (List ℕ)) (m : Marking Tail) (c : Meets (rules p ls) m) where
+  plays-as : {r : Role} (k : ℕ) (q : Piece) → getElem? (m .pieces) k ≡ some q → Plays r (m .pieces) k → role (q .kind) ≡ r
+  plays-as k q e a = ap (λ (x : Piece). role (x .kind)) (Option·some-injective q (a .piece) (sym e ∙ a .at)) ∙ a .as-role
+
+  pub link-read : (o d : Piece) (t : Tail) → LinkOf m o d t → LinkRead p ls o d t
+  link-read o d t x =
+      let pair : Paired (m .pieces) (x .from) (x .to) = link-pair c (x .from) (x .to) t (x .linked) in
+      let h : HasTail (rules p ls) (m .pieces) (x .from) (x .to) t = c .links-are (x .from) (x .to) t .0 (x .linked) .has-tail in
+      let ro = plays-as (x .from) o (x .open-at) (pair .opened) in
+      let rd = plays-as (x .to) d (x .close-at) (pair .closed) in
+      let eo : h .open-piece ≡ o = Option·some-injective (h .open-piece) o (sym (h .open-at) ∙ x .open-at) in
+      let ed : h .close-piece ≡ d = Option·some-injective (h .close-piece) d (sym (h .close-at) ∙ x .close-at) in
+      record {
+        some-bracket = some-bytes (c .kinds (x .from) o (x .open-at) (λ e. opening≢trailing (sym ro ∙ e)));
+        one-bracket = one-byte (c .kinds (x .to) d (x .close-at) (λ e. closing≢trailing (sym rd ∙ e))) rd;
+        reads = subst (λ (y : Piece). rules p ls .Tail (o .end) (y .start) t) ed (subst (λ (y : Piece). rules p ls .Tail (y .end) (h .close-piece .start) t) eo (h .reads));
+      }
+
+  pub code-some : (q : Piece) → CodeOf m q → q .start < q .end
+  code-some q x = some-bytes (c .kinds (x .index) q (x .at) (λ e. nothing≢trailing (ap role (sym (x .is-code)) ∙ e)))
+
+-- ---- rows
+module _ (at : ℕ) (p : List ℕ) (ls : List (List ℕ)) (ds : List Definition) where
+  row-some : (x : Span Tail) → SpanOf (the-marking p ls) x → RowWithin at (length p) (spanRow at p ds x) → at < rowEnd (spanRow at p ds x)
+  row-some (codeSpan q) o w = omega (arith, code-some p ls (the-marking p ls) (the-marking-meets p ls) q o)
+  row-some (linkSpan o d t) l w =
+      omega (arith, link-read p ls (the-marking p ls) (the-marking-meets p ls) o d t l .some-bracket, w .text-ordered, w .text-to)
+
+  -- every row of a paragraph ends after the paragraph's start, and not after its end
+  pub row-ends : (row : List ℕ) → In row (spanRows at p ls ds) → (at < rowEnd row) × (rowEnd row ≤ at + length p)
+  row-ends row (k, e) =
+      let w = row-within at p ls ds k row e in
+      let f = in-mapped (spanRow at p ds) (spans (grammar p ls)) row (k, e) in
+      let o = its-spans-are-read p ls (the-marking p ls) (the-marking-meets p ls) .no-others (f .from) (f .there) in
+      (subst (λ (r : List ℕ). at < rowEnd r) (f .is) (row-some (f .from) o (subst (RowWithin at (length p)) (sym (f .is)) w)), w .to)

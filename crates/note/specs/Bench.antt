@@ -1,0 +1,92 @@
+-- "Samples on the bench": the notes P1 to P13 of document 01 with their definition rows and their span rows; beside them its whole example, and
+-- notes with 64 and 65 brackets open.
+use Prim.Native.Nat.{ℕ}
+use Prim.Native.String.{String}
+use mathlib.Core.Path.{_≡_, refl}
+use mathlib.Core.Option.{none, some}
+use mathlib.Core.List.{List, [], _∷_, _++_, map}
+use lib.ListN.{replicate}
+use Rattle.scan.specs.Ascii.{ascii}
+use Rattle.scan.specs.Scan.{scan as scanBytes, run, past}
+use Rattle.scan.specs.Leap.{leap}
+use Rattle.scan.specs.Closing.{closingStep, closing}
+use Rattle.text.specs.Reading.{onesFrom, leadingOnes, sequenceLength, characters}
+use Rattle.label.specs.Reading.{inky, fitsAfter, fits, labelEnd, unclosed, isLabel}
+use Rattle.target.specs.Reading.{spaceFrom, depthAfter, rawStep, rawRun, judged, destinationOf, closer, titleOf}
+use Rattle.matching.specs.Form.{fold}
+use Rattle.matching.specs.Reading.{spaced, formOf, compared, equals, matches}
+use Rattle.marking.specs.Scan.{spans, finish, scan, scanStep, scanFound, scanStart, over, overs, overWithin}
+use Rattle.block.specs.Reading.{blankLine, lineLength, blockRest, blockLength, partLength, blockHere, blocks}
+use Rattle.row.specs.Row.{numbers}
+use Rattle.row.specs.Reading.{matchFrom}
+use Rattle.definition.specs.Reading as definition
+use Rattle.definition.specs.Reading.{definitions, paragraphs}
+use Rattle.inline.specs.CodeSpan.{countAfter, runStep, runDone, closingRun}
+use Rattle.inline.specs.Start.{pieceFrom}
+use Rattle.inline.specs.Inline.{closedAt, afterDestination, inlineOf}
+use Rattle.inline.specs.References.{labelAfter, textTail, tailOf}
+use Rattle.note.specs.Reading.{labels, rowsIn, spanRows, deepIn, firstDeep}
+
+pub record Sample : Type 0 where
+  pub note : String
+  -- its definition rows, six numbers each, and its span rows, ten numbers each
+  pub definition-rows : List (List ℕ)
+  pub span-rows : List (List ℕ)
+
+abbrev sample : String → List (List ℕ) → List (List ℕ) → Sample
+sample note ds rs = record { note = note; definition-rows = ds; span-rows = rs }
+
+abbrev six : ℕ → ℕ → ℕ → ℕ → ℕ → ℕ → List ℕ
+six a b c d e f = a ∷ b ∷ c ∷ d ∷ e ∷ f ∷ []
+
+abbrev ten : ℕ → ℕ → ℕ → ℕ → ℕ → ℕ → ℕ → ℕ → ℕ → ℕ → List ℕ
+ten k a b c d n e f g h = k ∷ a ∷ b ∷ c ∷ d ∷ n ∷ e ∷ f ∷ g ∷ h ∷ []
+
+abbrev pub samples : List Sample
+samples =
+    -- P1 to P5: source 000
+    sample "[link]()" [] (ten 2 0 8 1 5 0 0 0 0 0 ∷ [])
+    ∷ sample "[a](<b)c>)" [] (ten 2 0 10 1 2 0 5 8 0 0 ∷ [])
+    ∷ sample "[link](foo\\)\\:)" [] (ten 2 0 15 1 5 0 7 14 0 0 ∷ [])
+    ∷ sample "[link](/my uri)" [] []
+    ∷ sample "[foo][ref\\[]\n\n[ref\\[]: /uri" (six 15 20 23 27 0 0 ∷ []) (ten 3 0 12 1 4 1 23 27 0 0 ∷ [])
+    -- P6 to P11: source 003
+    ∷ sample "[foo [bar](/uri)][ref]\n\n[ref]: /uri" (six 25 28 31 35 0 0 ∷ []) (ten 2 5 16 6 9 0 11 15 0 0 ∷ ten 5 17 22 18 21 1 31 35 0 0 ∷ [])
+    ∷ sample "[foo][bar][baz]\n\n[baz]: /url" (six 18 21 24 28 0 0 ∷ []) (ten 3 5 15 6 9 1 24 28 0 0 ∷ [])
+    ∷ sample "[foo][bar][baz]\n\n[baz]: /url1\n[bar]: /url2" (six 18 21 24 29 0 0 ∷ six 31 34 37 42 0 0 ∷ []) (ten 3 0 10 1 4 2 37 42 0 0 ∷ ten 5 10 15 11 14 1 24 29 0 0 ∷ [])
+    ∷ sample "[foo][bar][baz]\n\n[baz]: /url1\n[foo]: /url2" (six 18 21 24 29 0 0 ∷ six 31 34 37 42 0 0 ∷ []) (ten 3 5 15 6 9 1 24 29 0 0 ∷ [])
+    ∷ sample "[foo`][ref]`\n\n[ref]: /uri" (six 15 18 21 25 0 0 ∷ []) (ten 1 4 12 5 11 0 0 0 0 0 ∷ [])
+    ∷ sample "[foo](not a link)\n\n[foo]: /url1" (six 20 23 26 31 0 0 ∷ []) (ten 5 0 5 1 4 1 26 31 0 0 ∷ [])
+    -- P12 and P13: source 002, examples 173 and 179
+    ∷ sample "[foo]\n\n[foo]: first\n[foo]: second" (six 8 11 14 19 0 0 ∷ six 21 24 27 33 0 0 ∷ []) (ten 5 0 5 1 4 1 14 19 0 0 ∷ [])
+    ∷ sample "[foo]: /url\n\"title\" ok" (six 1 4 7 11 0 0 ∷ []) []
+    ∷ []
+
+-- "Whole example, 34 bytes"
+abbrev pub whole-example : Sample
+whole-example = sample "[max]: /q2/max \"June\"\n\nUse [max].\n" (six 1 4 7 14 16 20 ∷ []) (ten 5 27 32 28 31 1 7 14 16 20 ∷ [])
+
+-- a sample's note with the rows that are read from its bytes
+abbrev pub readOne : Sample → Sample
+readOne x = sample (x .note) (map numbers (definitions (ascii (x .note)))) (spanRows (ascii (x .note)))
+
+abbrev brackets : ℕ → List ℕ
+brackets n = replicate n 91
+
+pub record Holds : Type 0 where
+  pub bench : map readOne samples ≡ samples
+  pub example : readOne whole-example ≡ whole-example
+  pub shallow : firstDeep (brackets 64) ≡ none
+  pub deep : firstDeep (brackets 65) ≡ some 64
+  -- "Each paragraph starts afresh", and places count from the note's start
+  pub afresh : firstDeep (brackets 40 ++ 10 ∷ 10 ∷ brackets 40) ≡ none
+  pub deep-later : firstDeep (97 ∷ 10 ∷ 10 ∷ brackets 65) ≡ some 67
+
+pub holds : Holds
+unfolding scanBytes run past leap closingStep closing onesFrom leadingOnes sequenceLength characters inky fitsAfter fits labelEnd unclosed isLabel
+    spaceFrom depthAfter rawStep rawRun judged destinationOf closer titleOf fold spaced formOf compared equals matches
+    spans finish scan scanStep scanFound scanStart over overs overWithin blankLine lineLength blockRest blockLength partLength blockHere blocks matchFrom
+    definition.lineAfter definition.titleAfter definition.endingAfter definition.afterLabel definition.afterIndent definition.definitionAt definition.takingFrom definition.definitionsFrom
+    definition.paragraphEnd definition.paragraphFrom definition.definitionsOf definition.paragraphOf definition.definitionsIn definition.paragraphsIn definitions paragraphs
+    countAfter runStep runDone closingRun pieceFrom closedAt afterDestination inlineOf labelAfter textTail tailOf labels rowsIn spanRows deepIn firstDeep
+holds = record { bench = refl; example = refl; shallow = refl; deep = refl; afresh = refl; deep-later = refl }

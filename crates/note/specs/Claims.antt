@@ -1,0 +1,66 @@
+-- What is claimed of every note, for demands 2 and 3.
+use Prim.Native.Nat.{ℕ, _+_, _-_, _≤_}
+use mathlib.Core.Path.{_≡_}
+use mathlib.Core.Logic.{_↔_}
+use mathlib.Core.Option.{some}
+use mathlib.Core.Bool.{cond}
+use mathlib.Core.List.{List, [], _∷_}
+use lib.ListN.{length, getD, drop, getElem?}
+use lib.Dec.{eqb}
+use Rattle.marking.specs.Spans.{In}
+use Rattle.marking.specs.Claims.{ExactlyOne}
+use Rattle.block.specs.Block.{Placed}
+use Rattle.row.specs.declared.Range.{Range}
+use Rattle.row.specs.declared.Definition.{Definition}
+use Rattle.row.specs.Row.{range}
+use Rattle.row.specs.First.{bytesOf, labelsOf, FirstEqual}
+use Rattle.definition.specs.Reading.{definitions}
+use Rattle.inline.specs.Paragraph.{rules}
+use Rattle.inline.specs.Rows.{width, rowEnd}
+use Rattle.note.specs.Note.{Marked, SpanRowsAre, EachRowOnce}
+use Rattle.note.specs.Reading.{labels, spanRows}
+
+-- the note has markings, one for each paragraph, and no other list of markings; each paragraph has exactly one
+pub record OneMarkingEach (s : List ℕ) : Type 0 where
+  pub the-markings : Marked s
+  pub no-others : (n : Marked s)
+      → (n .definitions ≡ the-markings .definitions) × (n .paragraphs ≡ the-markings .paragraphs) × (n .markings ≡ the-markings .markings)
+  pub each : (q : Placed) → In q (the-markings .paragraphs) → ExactlyOne (rules (q .bytes) (labelsOf s (the-markings .definitions)))
+
+-- a span row has ten numbers, every place in it is at most the note's length, and its definition number at most the number of definitions
+pub record RowFits (s : List ℕ) (row : List ℕ) : Type 0 where
+  pub wide : length row ≡ width
+  pub start : getD row 1 0 ≤ getD row 3 0
+  pub text : getD row 3 0 ≤ getD row 4 0
+  pub text-end : getD row 4 0 ≤ rowEnd row
+  pub end : rowEnd row ≤ length s
+  pub number : getD row 5 0 ≤ length (definitions s)
+  pub destination-start : getD row 6 0 ≤ length s
+  pub destination-end : getD row 7 0 ≤ length s
+  pub title-start : getD row 8 0 ≤ length s
+  pub title-end : getD row 9 0 ≤ length s
+
+-- where the label stands that a reference row was looked up by: between the second brackets of a full reference, else between the first
+abbrev pub lookedUp : List ℕ → Range
+lookedUp row = cond (eqb (getD row 0 0) 3) (range (getD row 4 0 + 2) (rowEnd row - 1)) (range (getD row 3 0) (getD row 4 0))
+
+-- "In a lookup the search stops at the first equal label"; "A reference's definition is the one that demand 2 names; its destination and title are that definition's."
+pub record RefersTo (s : List ℕ) (row : List ℕ) : Type 0 where
+  pub index : ℕ
+  pub first-equal : FirstEqual (labels s) (bytesOf s (lookedUp row)) index
+  pub definition : Definition
+  pub is-there : getElem? (definitions s) index ≡ some definition
+  pub number-is : getD row 5 0 ≡ index + 1
+  pub target-is : drop 6 row ≡ definition .destination .start ∷ definition .destination .end ∷ definition .title .start ∷ definition .title .end ∷ []
+
+-- Demand 3 of a note s. "The link rules are stated as conditions on a finished marking of a paragraph": `Meets` and `rules`, cited by `Marked` and `ExactlyOne`.
+pub record Demand3 (s : List ℕ) : Type 0 where
+  -- "Exactly one marking of each paragraph meets them, for every well-formed note within the length limit, refused or not."
+  pub one-marking-each : OneMarkingEach s
+  -- "Span rows are those of the links and code spans of these markings, each once, no others, equal in every number, in order of end."
+  pub span-rows : (rows : List (List ℕ)) → (spanRows s ≡ rows) ↔ EachRowOnce s rows
+  pub by-paragraph : (rows : List (List ℕ)) → (spanRows s ≡ rows) ↔ SpanRowsAre s rows
+  pub each-once : (i j : ℕ) (row : List ℕ) → getElem? (spanRows s) i ≡ some row → getElem? (spanRows s) j ≡ some row → i ≡ j
+  -- what stands in a row
+  pub fits : (row : List ℕ) → In row (spanRows s) → RowFits s row
+  pub refers : (row : List ℕ) → In row (spanRows s) → 3 ≤ getD row 0 0 → RefersTo s row

@@ -1,0 +1,91 @@
+-- The markings of a note, its span rows, and its first bracket too many: document 01, over all paragraphs of a note. s is any list of bytes.
+use Prim.Native.Nat.{ℕ, _+_, _<_}
+use mathlib.Core.Path.{_≡_}
+use mathlib.Core.Option.{some}
+use mathlib.Core.List.{List, [], _∷_, _++_, Forall₂}
+use lib.ListN.{getElem?}
+use Rattle.marking.specs.Marking.{Marking, Meets}
+use Rattle.marking.specs.Spans.{Span, SpanOf, In}
+use Rattle.marking.specs.Open.{NeverOver, FirstOver}
+use Rattle.block.specs.Block.{Placed}
+use Rattle.row.specs.declared.Definition.{Definition}
+use Rattle.row.specs.First.{labelsOf}
+use Rattle.definition.specs.Note.{NoteIs}
+use Rattle.inline.specs.Tails.{Tail}
+use Rattle.inline.specs.Paragraph.{rules}
+use Rattle.inline.specs.Rows.{spanRow, RowsAre, EndsIncrease}
+
+-- "some paragraph has over 64 brackets open at once"
+abbrev pub depthLimit : ℕ
+depthLimit = 64
+
+-- ---- markings
+-- "A marking meets the conditions exactly when everything in this section holds of it": m, of the paragraph q of a note whose definitions are ds
+abbrev pub MarkingOf : List ℕ → List Definition → Placed → Marking Tail → Type 0
+MarkingOf s ds q m = Meets (rules (q .bytes) (labelsOf s ds)) m
+
+-- one marking for each paragraph, in order, and each meets the conditions
+abbrev pub MarkingsAre : List ℕ → List Definition → List Placed → List (Marking Tail) → Type 0
+MarkingsAre s ds ps ms = Forall₂ (MarkingOf s ds) ps ms
+
+-- the note's definitions, its paragraphs and their markings
+pub record Marked (s : List ℕ) : Type 0 where
+  pub definitions : List Definition
+  pub paragraphs : List Placed
+  pub markings : List (Marking Tail)
+  pub note : NoteIs s definitions paragraphs
+  pub each : MarkingsAre s definitions paragraphs markings
+
+-- ---- span rows
+-- the rows of these paragraphs with these markings: those of each paragraph by itself, in order. "Places count from the note's start."
+pub data RowsIn (s : List ℕ) (ds : List Definition) : List Placed → List (Marking Tail) → List (List ℕ) → Type 0 where
+  none : RowsIn s ds [] [] []
+  more : {q : Placed} {ps : List Placed} {m : Marking Tail} {ms : List (Marking Tail)} {rows others : List (List ℕ)}
+      → RowsAre (q .at) (q .bytes) (labelsOf s ds) ds m rows → RowsIn s ds ps ms others → RowsIn s ds (q ∷ ps) (m ∷ ms) (rows ++ others)
+
+-- "Demand 3 compares them whole, number for number, with the rows that this section makes of the links and code spans in the markings."
+pub record SpanRowsAre (s : List ℕ) (rows : List (List ℕ)) : Type 0 where
+  pub marked : Marked s
+  pub rows-are : RowsIn s (marked .definitions) (marked .paragraphs) (marked .markings) rows
+
+-- row is that of a link or a code span in the marking of one of these paragraphs
+pub record RowOf (ds : List Definition) (ps : List Placed) (ms : List (Marking Tail)) (row : List ℕ) : Type 0 where
+  pub index : ℕ
+  pub paragraph : Placed
+  pub paragraph-at : getElem? ps index ≡ some paragraph
+  pub marking : Marking Tail
+  pub marking-at : getElem? ms index ≡ some marking
+  pub span : Span Tail
+  pub of-marking : SpanOf marking span
+  pub row-is : spanRow (paragraph .at) (paragraph .bytes) ds span ≡ row
+
+-- The same rows with no word of paragraph after paragraph: those "of the links and code spans in the markings", all of them and nothing else.
+-- "Rows stand in increasing order of end", so that each stands there once.
+pub record EachRowOnce (s : List ℕ) (rows : List (List ℕ)) : Type 0 where
+  pub marked : Marked s
+  pub each : (row : List ℕ) → RowOf (marked .definitions) (marked .paragraphs) (marked .markings) row → In row rows
+  pub no-others : (row : List ℕ) → In row rows → RowOf (marked .definitions) (marked .paragraphs) (marked .markings) row
+  pub in-order : EndsIncrease rows
+
+-- ---- brackets open at once
+-- more than `depthLimit` brackets are open at once in one of these paragraphs, and the bracket at this place is the first too many in the first of them
+pub record FirstDeepIn (ps : List Placed) (ms : List (Marking Tail)) (place : ℕ) : Type 0 where
+  pub index : ℕ
+  pub paragraph : Placed
+  pub paragraph-at : getElem? ps index ≡ some paragraph
+  pub marking : Marking Tail
+  pub marking-at : getElem? ms index ≡ some marking
+  pub within : ℕ
+  pub too-many : FirstOver depthLimit marking within
+  pub place-is : paragraph .at + within ≡ place
+  pub none-before : (k : ℕ) (m : Marking Tail) → k < index → getElem? ms k ≡ some m → NeverOver depthLimit m
+
+-- "some paragraph has over 64 brackets open at once", and the "place of the first bracket too many"
+pub record FirstDeep (s : List ℕ) (place : ℕ) : Type 0 where
+  pub marked : Marked s
+  pub first : FirstDeepIn (marked .paragraphs) (marked .markings) place
+
+-- no paragraph has
+pub record NeverDeep (s : List ℕ) : Type 0 where
+  pub marked : Marked s
+  pub never : (k : ℕ) (m : Marking Tail) → getElem? (marked .markings) k ≡ some m → NeverOver depthLimit m

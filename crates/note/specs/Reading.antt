@@ -1,0 +1,39 @@
+-- The span rows of a note and its first bracket too many, paragraph by paragraph.
+use Prim.Native.Nat.{ℕ, _+_}
+use mathlib.Core.Option.{Option, none, some}
+use mathlib.Core.List.{List, [], _∷_, _++_}
+use Rattle.marking.specs.Scan.{over}
+use Rattle.block.specs.Block.{Placed}
+use Rattle.row.specs.declared.Definition.{Definition}
+use Rattle.row.specs.First.{labelsOf}
+use Rattle.definition.specs.Reading.{definitions, paragraphs}
+use Rattle.inline.specs.Grammar.{grammar}
+use Rattle.inline.specs.Rows as paragraph
+use Rattle.note.specs.Note.{depthLimit}
+
+-- the labels of the note's definitions, as bytes
+unfoldable pub labels : List ℕ → List (List ℕ)
+labels s = labelsOf s (definitions s)
+
+-- ---- span rows
+-- the rows of these paragraphs, where the definitions ds have these labels
+unfoldable pub rowsIn : List (List ℕ) → List Definition → List Placed → List (List ℕ)
+rowsIn ls ds [] = []
+rowsIn ls ds (q ∷ ps) = paragraph.spanRows (q .at) (q .bytes) ls ds ++ rowsIn ls ds ps
+
+unfoldable pub spanRows : List ℕ → List (List ℕ)
+spanRows s = rowsIn (labels s) (definitions s) (paragraphs s)
+
+-- ---- brackets open at once
+-- the place in the paragraph, from the note's start; or what is found later
+abbrev pub placeOr : ℕ → Option ℕ → Option ℕ → Option ℕ
+placeOr at (some p) later = some (at + p)
+placeOr at none later = later
+
+unfoldable pub deepIn : List (List ℕ) → List Placed → Option ℕ
+deepIn ls [] = none
+deepIn ls (q ∷ ps) = placeOr (q .at) (over depthLimit (grammar (q .bytes) ls)) (deepIn ls ps)
+
+-- the place of the first bracket with which more than `depthLimit` are open in one paragraph
+unfoldable pub firstDeep : List ℕ → Option ℕ
+firstDeep s = deepIn (labels s) (paragraphs s)
