@@ -1,0 +1,11 @@
+pub mod Writing
+pub mod Bytes
+pub mod Undone
+pub mod Margin
+pub mod Link
+pub mod Escapes
+pub mod Trimming
+pub mod Cases
+pub mod Lengths
+pub mod Safety
+pub mod Tags

@@ -1,0 +1,60 @@
+-- Escapes undone, one byte after the other.
+use Prim.Native.Nat.{ℕ, _+_, _≤_, _<_}
+use native.Mathlib.Nat.{add-zero}
+use native.Mathlib.Omega.{arith}
+use mathlib.Core.Path.{_≡_, refl, sym, subst}
+use mathlib.Core.List.{List, [], _∷_, _++_, map, flatMap}
+use mathlib.Core.Bool.{Bool, true, false, true≢false}
+use lib.ListN.{length, getD, drop, drop-of-length-le}
+use lib.Seq.{getD-drop}
+use lib.Dec.{eqb}
+use Rattle.scan.specs.Test.{by, and-right}
+use Rattle.scan.specs.Byte.{punctuation, escapes, peek-inside}
+use Rattle.scan.specs.Scan.{at-cons}
+use Rattle.html.specs.Reading.{undone, backslash}
+
+pub undone-escape : (b p : ℕ) (s : List ℕ) → escapes (b ∷ p ∷ s) ≡ true → undone (b ∷ p ∷ s) ≡ p ∷ undone s
+unfolding undone
+undone-escape b p s e = subst (λ (t : Bool). elim t [ true ↦ p ∷ undone s | false ↦ b ∷ undone (p ∷ s) ] ≡ p ∷ undone s) (sym e) refl
+
+pub undone-byte : (b : ℕ) (s : List ℕ) → escapes (b ∷ s) ≡ false → undone (b ∷ s) ≡ b ∷ undone s
+unfolding undone
+undone-byte b [] e = refl
+undone-byte b (p ∷ s) e = subst (λ (t : Bool). elim t [ true ↦ p ∷ undone s | false ↦ b ∷ undone (p ∷ s) ] ≡ b ∷ undone (p ∷ s)) (sym e) refl
+
+-- both bytes of an escape stand within the list
+escape-inside : (s : List ℕ) (i : ℕ) → escapes (drop i s) ≡ true → i + 1 < length s
+escape-inside s i e =
+    let p : punctuation (getD s (i + 1) 0) ≡ true = rw (getD-drop i s 1 0) at (and-right (eqb (getD (drop i s) 0 0) 92) _ e) in
+    peek-inside s (i + 1) (λ z. true≢false (sym (rw z at p)))
+
+module _ (s : List ℕ) (i : ℕ) (h : i < length s) where
+  pub byte-inside : i + backslash (drop i s) < length s
+  byte-inside = by (escapes (drop i s)) (λ e. rw e (escape-inside s i e)) (λ e. rw e (omega arith))
+
+  -- the next byte that is given
+  pub undone-at : undone (drop i s) ≡ getD s (i + backslash (drop i s)) 0 ∷ undone (drop (i + backslash (drop i s) + 1) s)
+  undone-at =
+      by (escapes (drop i s))
+      (λ e. let k = escape-inside s i e in rw (e, at-cons s i h, at-cons s (i + 1) k) (undone-escape _ _ _ (rw (at-cons s i h, at-cons s (i + 1) k) at e)))
+      (λ e. rw (e, add-zero, at-cons s i h) (undone-byte _ _ (rw (at-cons s i h) at e)))
+
+-- ---- a loop that writes f of each byte given, which stands at i
+module _ (f : ℕ → List ℕ) (s : List ℕ) (i : ℕ) where
+  pub next-undone : {j : ℕ} → j ≡ i + backslash (drop i s) → i < length s → flatMap f (undone (drop i s)) ≡ f (getD s j 0) ++ flatMap f (undone (drop (j + 1) s))
+  unfolding flatMap
+  next-undone e h = rw (e, undone-at s i h)
+
+  pub none-undone : length s ≤ i → flatMap f (undone (drop i s)) ≡ []
+  unfolding flatMap undone
+  none-undone h = rw (drop-of-length-le s h)
+
+-- ---- the same, where each byte is changed by g first
+module _ (f : ℕ → List ℕ) (g : ℕ → ℕ) (s : List ℕ) (i : ℕ) where
+  pub next-mapped : {b : ℕ} → b ≡ g (getD s i 0) → i < length s → flatMap f (map g (drop i s)) ≡ f b ++ flatMap f (map g (drop (i + 1) s))
+  unfolding flatMap
+  next-mapped e h = rw (e, at-cons s i h)
+
+  pub none-mapped : length s ≤ i → flatMap f (map g (drop i s)) ≡ []
+  unfolding flatMap
+  none-mapped h = rw (drop-of-length-le s h)

@@ -1,0 +1,21 @@
+-- The test is the definition's own.
+use native.Mathlib.Nat.{add-zero}
+use mathlib.Core.Path.{sym, _∙_}
+use borrow.Author.Needs.{needs}
+use Rattle.html.proofs.past_backslash.Statement.{statement}
+use Rattle.html.proofs.past_backslash.Tie as tie
+
+escape-at-requires : tie.Need-escape-at-requires
+escape-at-requires c κs = search needs
+
+add-result : tie.Need-add-result
+add-result c = search needs
+
+returns : tie.Need-returns
+returns c = rw (sym (c .before .escape-at .ensures) ∙ c .if1 .taken)
+
+returns-2 : tie.Need-returns-2
+returns-2 c = rw (sym (c .before .escape-at .ensures) ∙ c .if1 .left, add-zero)
+
+pub past-backslash-spec : {M : Type 1} → statement M
+past-backslash-spec = tie.close (tie.spec escape-at-requires add-result returns returns-2)

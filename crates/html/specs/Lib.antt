@@ -1,0 +1,5 @@
+pub mod Page
+pub mod Stored
+pub mod Reading
+pub mod Safe
+pub mod Samples

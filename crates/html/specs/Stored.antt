@@ -1,0 +1,15 @@
+-- What a call that writes to a page leaves: bytes past the page's end are counted and not stored.
+use Prim.Native.Nat.{ℕ, _+_}
+use mathlib.Core.Path.{_≡_}
+use mathlib.Core.List.{List}
+use lib.ListN.{length}
+use lib.Seq.{sets}
+
+-- the most that a page is counted to, 2^40: no sum of lengths wraps below it
+abbrev pub pageMost : ℕ
+pageMost = 1_099_511_627_776
+
+-- w is written from n on: the page after it, whole, and the length of what is written by then
+pub record Writes (page : List ℕ) (n : ℕ) (w after : List ℕ) (r : ℕ) : Type 0 where
+  pub size : r ≡ n + length w
+  pub stored : after ≡ sets page n w
