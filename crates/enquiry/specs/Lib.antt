@@ -1,0 +1,5 @@
+pub mod Enquiry
+pub mod Law
+pub mod Reading
+pub mod Promise
+pub mod Samples

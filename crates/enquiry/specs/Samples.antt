@@ -1,0 +1,68 @@
+-- Notes and labels with the enquiry's answer, by computation.
+use Prim.Native.Nat.{ℕ}
+use Prim.Native.String.{String}
+use mathlib.Core.Path.{_≡_, refl}
+use mathlib.Core.List.{List, [], _∷_, _++_, map}
+use lib.ListN.{replicate}
+use Rattle.scan.specs.Ascii.{ascii}
+use Rattle.scan.specs.Scan.{scan, run, past}
+use Rattle.scan.specs.Leap.{leap}
+use Rattle.scan.specs.Closing.{closingStep, closing}
+use Rattle.text.specs.Utf8.{table}
+use Rattle.text.specs.Reading.{onesFrom, leadingOnes, sequenceLength, characters, rowFor, starts, characterLength, goodLength, firstBadPast, firstBad, checkOf}
+use Rattle.label.specs.Reading.{inky, fitsAfter, fits, labelEnd, unclosed, isLabel}
+use Rattle.target.specs.Reading.{spaceFrom, depthAfter, rawStep, rawRun, judged, destinationOf, closer, titleOf}
+use Rattle.block.specs.Reading.{blankLine, lineLength, blockRest, blockLength, partLength, blockHere, blocks}
+use Rattle.matching.specs.Form.{fold}
+use Rattle.matching.specs.Reading.{spaced, formOf, compared, equals, matches}
+use Rattle.row.specs.Reading.{matchFrom}
+use Rattle.definition.specs.Reading as definition
+use Rattle.enquiry.specs.declared.Enquiry.{Enquiry}
+use Rattle.enquiry.specs.declared.Enquiry.the-variants.{Found, Long, Bad, NotLabel, Undefined}
+use Rattle.enquiry.specs.Enquiry.{partOf}
+use Rattle.enquiry.specs.Reading.{goodLabel, lookedUpIn, lookedUp, enquiryOf}
+
+pub record Sample : Type 0 where
+  pub note : List ℕ
+  pub label : List ℕ
+  pub answer : Enquiry
+  pub part : List ℕ
+
+abbrev sample : List ℕ → List ℕ → Enquiry → String → Sample
+sample note label answer part = record { note = note; label = label; answer = answer; part = ascii part }
+
+-- the first of two, an escape, and an empty destination
+abbrev note : List ℕ
+note = ascii "[max]: /a\\*b \"June\"\n[MAX]: /c\n\n [x\ny]: <>\n\n[p]"
+
+abbrev pub samples : List Sample
+samples =
+    sample note (ascii "Max") (Found 7 12) "/a\\*b"
+    ∷ sample note (ascii " x  y\n\n") (Found 40 40) ""
+    ∷ sample note (ascii "p") Undefined ""
+    ∷ sample [] (ascii "p") Undefined ""
+    ∷ sample note [] NotLabel ""
+    ∷ sample note (ascii " ") NotLabel ""
+    ∷ sample note (ascii "a]") NotLabel ""
+    ∷ sample note (ascii "[") NotLabel ""
+    ∷ sample note (ascii "[max]") NotLabel ""
+    ∷ sample note (ascii "max" ++ 13 ∷ []) NotLabel ""
+    ∷ sample note (0 ∷ ascii "max") NotLabel ""
+    ∷ sample note (ascii "max" ++ 195 ∷ []) NotLabel ""
+    ∷ sample (ascii "[a]: b" ++ 13 ∷ []) (ascii "a") (Bad 6) ""
+    ∷ sample (ascii "[a]: b" ++ 0 ∷ []) [] (Bad 6) ""
+    ∷ sample (ascii "[a" ++ 237 ∷ 160 ∷ 128 ∷ ascii "]: b") (ascii "a") (Bad 2) ""
+    ∷ sample (replicate 32769 0) [] (Long 32769) ""
+    ∷ []
+
+-- the same notes and labels, as they are answered
+abbrev answered : Sample → Sample
+answered s = record { note = s .note; label = s .label; answer = enquiryOf (s .note) (s .label); part = partOf (s .note) (enquiryOf (s .note) (s .label)) }
+
+pub samples-hold : map answered samples ≡ samples
+unfolding scan run past leap closingStep closing onesFrom leadingOnes sequenceLength characters table rowFor starts characterLength goodLength firstBadPast firstBad checkOf
+    inky fitsAfter fits labelEnd unclosed isLabel spaceFrom depthAfter rawStep rawRun judged destinationOf closer titleOf
+    blankLine lineLength blockRest blockLength partLength blockHere blocks fold spaced formOf compared equals matches matchFrom
+    definition.lineAfter definition.titleAfter definition.endingAfter definition.afterLabel definition.afterIndent definition.definitionAt definition.takingFrom
+    definition.definitionsFrom definition.definitionsOf definition.definitionsIn definition.definitions goodLabel lookedUpIn lookedUp enquiryOf
+samples-hold = refl
