@@ -1,0 +1,32 @@
+-- A note has at most as many definitions as bytes.
+use Prim.Native.Nat.{ℕ, zero, suc, _+_, _≤_}
+use native.Mathlib.Omega.{arith}
+use mathlib.Core.List.{List}
+use lib.ListN.{length, length-append}
+use Rattle.block.specs.Block.{Placed}
+use Rattle.block.proofs.Places as block
+use Rattle.definition.specs.Reading.{definitionAt, takingFrom, definitionsFrom, upToEnd, definitionsOf, definitionsIn, definitions}
+use Rattle.definition.proofs.Places.{definition-onward}
+use Rattle.definition.proofs.Takings.{by-entry, from-none, from-one}
+use Rattle.definition.proofs.Notes.{end-length, starts}
+
+-- each definition takes a byte at least
+few-from : (s : List ℕ) (k at : ℕ) → at ≤ length s → at + length (takingFrom k s at .definitions) ≤ length s
+unfolding takingFrom
+few-from s zero at h = omega arith
+few-from s (suc k) at h =
+    by-entry (definitionAt s at) (λ e. rw (from-none s (suc k) at e) (omega arith))
+    (λ d n e. let (x, y) = definition-onward s at d n e in rw (from-one s k at d n e) (omega (arith, few-from s k n y)))
+
+module _ (s : List ℕ) where
+  few-in : {from : ℕ} {bs : List Placed} → from ≤ length s → block.InOrder s from bs → from + length (definitionsIn s bs) ≤ length s
+  unfolding definitionsIn definitionsOf definitionsFrom
+  few-in h block.done = omega arith
+  few-in h (block.next {b = b} {bs = bs} k w o) =
+      let u = upToEnd s b in
+      let l = length-append (takingFrom (length u) u (b .at) .definitions) (definitionsIn s bs) in
+      omega (arith, l, few-from u (length u) (b .at) (starts s b w), end-length s b w, few-in (w .inside) o)
+
+  pub few-definitions : length (definitions s) ≤ length s
+  unfolding definitions
+  few-definitions = let h = few-in (omega arith) (block.blocks-in-order s) in omega arith

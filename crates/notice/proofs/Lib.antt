@@ -1,0 +1,9 @@
+pub mod Order
+pub mod Answers
+pub mod Demand1
+pub mod Tables
+pub mod Promise
+pub mod Few
+pub mod Filling
+pub mod Turns
+pub mod Returns

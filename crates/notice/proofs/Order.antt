@@ -1,0 +1,36 @@
+-- The answer, refusal after refusal: what is said where the note is good, by the counts, the first bracket too many and the rows lent.
+use Prim.Native.Nat.{ℕ, _≤_, _<_}
+use mathlib.Core.Path.{_≡_, refl}
+use mathlib.Core.Option.{Option, none, some}
+use mathlib.Core.List.{List}
+use borrow.Author.Tests.{lt-ltb, le-ltb}
+use lib.ListN.{length}
+use Rattle.text.specs.declared.Checked.{Checked}
+use Rattle.text.specs.declared.Checked.the-variants as text
+use Rattle.text.specs.Reading.{checkOf}
+use Rattle.definition.specs.Reading.{definitions}
+use Rattle.note.specs.Reading.{spanRows, firstDeep}
+use Rattle.notice.specs.declared.Reading.the-variants.{Read, FewDefinitions, Deep, FewSpans}
+use Rattle.notice.specs.Reader.{badOr, withSpans, withDefinitions, readingOf}
+
+module _ (a : ℕ) (o : Option ℕ) (b lent lent′ : ℕ) where
+  pub too-few-definitions : lent < a → withDefinitions a o b lent lent′ ≡ FewDefinitions a
+  too-few-definitions h = rw (lt-ltb lent a h)
+
+  pub enough-definitions : a ≤ lent → withDefinitions a o b lent lent′ ≡ withSpans a o b lent′
+  enough-definitions h = rw (le-ltb lent a h)
+
+  pub too-deep : (place : ℕ) → a ≤ lent → o ≡ some place → withDefinitions a o b lent lent′ ≡ Deep place
+  too-deep place h e = rw (le-ltb lent a h, e)
+
+  pub too-few-spans : a ≤ lent → o ≡ none → lent′ < b → withDefinitions a o b lent lent′ ≡ FewSpans b
+  too-few-spans h e k = rw (le-ltb lent a h, e, lt-ltb lent′ b k)
+
+  pub all-read : a ≤ lent → o ≡ none → b ≤ lent′ → withDefinitions a o b lent lent′ ≡ Read a b
+  all-read h e k = rw (le-ltb lent a h, e, le-ltb lent′ b k)
+
+-- the answer by the check's
+pub by-check : (s : List ℕ) (lent lent′ : ℕ) (c : Checked) → checkOf s ≡ c
+    → readingOf s lent lent′ ≡ badOr c (withDefinitions (length (definitions s)) (firstDeep s) (length (spanRows s)) lent lent′)
+unfolding readingOf
+by-check s lent lent′ c e = rw e

@@ -1,0 +1,38 @@
+-- What follows from the reader's promise: demand 1 of its answer, what the tables hold, and that no other result keeps it.
+use Prim.Native.Nat.{ℕ}
+use mathlib.Core.Path.{_≡_, refl, sym, ap, _∙_, subst}
+use mathlib.Core.List.{List}
+use Rattle.row.specs.Row as definitionTable
+use Rattle.span.specs.Row as spanTable
+use Rattle.notice.specs.declared.Reading.{Reading}
+use Rattle.notice.specs.Law.{Answers}
+use Rattle.notice.specs.Reader.{numberOf, valueOf, definitionCount, spanCount, definitionTableOf, spanTableOf, Promise}
+use Rattle.notice.specs.Claims.{Demand1, Tables, Same}
+use Rattle.notice.proofs.Answers.{the-answer}
+use Rattle.notice.proofs.Demand1 as answers
+use Rattle.notice.proofs.Tables.{tables-after}
+
+module _ {s t u : List ℕ} {r : Reading} {s′ t′ u′ : List ℕ} (p : Promise s t u r s′ t′ u′) where
+  pub demand-1 : Demand1 s (definitionTable.wholeRows t) (spanTable.wholeRows u) r
+  demand-1 = subst (Demand1 s (definitionTable.wholeRows t) (spanTable.wholeRows u)) (sym (p .answer)) (answers.demand-1 s (definitionTable.wholeRows t) (spanTable.wholeRows u))
+
+  -- demands 2 and 3, and what is left unchanged
+  pub tables-hold : Tables s t u r t′ u′
+  tables-hold =
+      let d = definitionTable.wholeRows t in
+      let n = spanTable.wholeRows u in
+      tables-after s t u r (subst (Answers s d n) (sym (p .answer)) (the-answer s d n)) (p .definitions) (p .spans)
+
+  -- "for each input the promise equates what the call gives .. with a definition"
+  pub one-answer : {r₂ : Reading} {s₂ t₂ u₂ : List ℕ} → Promise s t u r₂ s₂ t₂ u₂ → Same r t′ u′ r₂ t₂ u₂
+  one-answer q =
+      let e : r ≡ _ = p .answer ∙ sym (q .answer) in
+      record {
+        answer = e;
+        number = ap numberOf e;
+        value = ap valueOf e;
+        definitions-counted = ap definitionCount e;
+        spans-counted = ap spanCount e;
+        definitions = p .definitions ∙ ap (λ (x : Reading). definitionTableOf s x t) e ∙ sym (q .definitions);
+        spans = p .spans ∙ ap (λ (x : Reading). spanTableOf s x u) e ∙ sym (q .spans);
+      }

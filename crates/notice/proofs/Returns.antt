@@ -1,0 +1,139 @@
+-- What the reader has done at each return, and that it keeps the promise. A part that was lent empty comes back empty, before the table itself.
+use Prim.Native.Nat.{ℕ, _≤_, _<_, _^_}
+use native.Mathlib.Omega.{arith}
+use mathlib.Core.Path.{_≡_, refl, sym, ap, ap₂, _∙_}
+use mathlib.Core.Option.{Option, none, some}
+use mathlib.Core.List.{List, [], _∷_, _++_}
+use mathlib.Core.Bool.{false}
+use borrow.Author.Tests.{lt-ltb, le-ltb}
+use lib.ListN.{length}
+use lib.Dec.{ltb}
+use Rattle.scan.specs.Byte.{within}
+use Rattle.scan.specs.Test.{by}
+use Rattle.text.specs.declared.Checked.{Checked}
+use Rattle.text.specs.declared.Checked.the-variants as text
+use Rattle.text.specs.Reading.{checkOf}
+use Rattle.text.proofs.Refusals.{check-good}
+use Rattle.rows.proofs.Filled as rows
+use Rattle.row.specs.Row as definitionTable
+use Rattle.row.proofs.Filled.{filled-empty, definitions-back}
+use Rattle.definition.specs.Reading.{definitions}
+use Rattle.table.proofs.Lookup.{table-fit}
+use Rattle.span.specs.Row as spanTable
+use Rattle.note.specs.Reading.{spanRows, firstDeep}
+use Rattle.paragraph.specs.declared.Marked.{Marked}
+use Rattle.paragraph.specs.declared.Marked.the-variants as marked
+use Rattle.notice.specs.declared.Reading.{Reading}
+use Rattle.notice.specs.declared.Reading.the-variants.{Read, Long, Bad, FewDefinitions, Deep, FewSpans}
+use Rattle.notice.specs.Reader.{numberOf, withSpans, readingOf, spansFilled, definitionTableOf, spanTableOf, Promise}
+use Rattle.notice.specs.Spans.{Defined, NoteMarked, SpansRead}
+use Rattle.notice.proofs.Order.{by-check, too-few-definitions, enough-definitions}
+use Rattle.notice.proofs.Turns.{was-spans, was-deep}
+
+no-part : (part t : List ℕ) → length part ≡ 0 → part ++ t ≡ t
+no-part [] t e = refl
+no-part (x ∷ part) t e = absurd (omega arith)
+
+-- ---- the spans
+-- they are counted, and nothing is stored
+module _ (s : List ℕ) (count : ℕ) {part : List ℕ} {r : Marked} (m : NoteMarked s [] r part) (u : List ℕ) where
+  pub too-many-open : {place : ℕ} → r ≡ marked.Deep place → length part ≡ 0 → SpansRead s count u (Deep place) (part ++ u)
+  too-many-open {place} er e =
+      let w : firstDeep s ≡ some place = was-deep (firstDeep s) (length (spanRows s)) (sym (m .answer) ∙ er) in
+      record { answer = rw w refl; spans = no-part part u e }
+
+  module _ {n : ℕ} (er : r ≡ marked.Spans n) where
+    never : firstDeep s ≡ none
+    never = was-spans (firstDeep s) (length (spanRows s)) (sym (m .answer) ∙ er) .0
+
+    count-is : length (spanRows s) ≡ n
+    count-is = was-spans (firstDeep s) (length (spanRows s)) (sym (m .answer) ∙ er) .1
+
+    back : part ++ u ≡ u
+    back = no-part part u (ap length (m .table never ∙ rows.filled-empty spanTable.width (λ (row : List ℕ). row) (spanRows s)))
+
+    module _ {k : ℕ} (ek : k ≡ spanTable.wholeRows (part ++ u)) where
+      rows-lent : k ≡ spanTable.wholeRows u
+      rows-lent = ek ∙ ap (λ (l : List ℕ). spanTable.wholeRows l) back
+
+      pub too-few-rows : k < n → SpansRead s count u (FewSpans n) (part ++ u)
+      too-few-rows h =
+          let z : spanTable.wholeRows u < n = omega (arith, rows-lent) in
+          record { answer = rw (never, count-is, lt-ltb (spanTable.wholeRows u) n z) refl; spans = back }
+
+      pub all-stored : n ≤ k → {q : Marked} {u′ : List ℕ} → NoteMarked s (part ++ u) q u′ → SpansRead s count u (Read count n) u′
+      all-stored h z =
+          let y : n ≤ spanTable.wholeRows u = omega (arith, rows-lent) in
+          record { answer = rw (never, count-is, le-ltb (spanTable.wholeRows u) n y) refl; spans = z .table never ∙ ap (spansFilled (spanRows s)) back }
+
+-- ---- the whole note
+module _ (s t u : List ℕ) {c : Checked} (ec : c ≡ checkOf s) where
+  abbrev lent : ℕ
+  lent = definitionTable.wholeRows t
+
+  abbrev lent′ : ℕ
+  lent′ = spanTable.wholeRows u
+
+  pub too-long : {n : ℕ} → c ≡ text.Long n → Promise s t u (Long n) s t u
+  too-long {n} e = record { answer = sym (by-check s lent lent′ (text.Long n) (sym ec ∙ e)); definitions = refl; spans = refl; note = refl }
+
+  pub not-good : {k : ℕ} → c ≡ text.Bad k → Promise s t u (Bad k) s t u
+  not-good {k} e = record { answer = sym (by-check s lent lent′ (text.Bad k) (sym ec ∙ e)); definitions = refl; spans = refl; note = refl }
+
+pub short : (s : List ℕ) {c : Checked} → c ≡ checkOf s → c ≡ text.Good → length s < 2 ^ 32
+short s ec e = omega (arith, check-good s .0 (sym ec ∙ e) .0)
+
+-- refusals 4 and 5 and success leave the rows of the definitions
+rows-there : (d : ℕ) (o : Option ℕ) (n k : ℕ) → within 1 3 (numberOf (withSpans d o n k)) ≡ false
+rows-there d (some place) n k = refl
+rows-there d none n k = by (ltb k n) (λ e. rw e refl) (λ e. rw e refl)
+
+-- the definitions are counted, and nothing is stored
+module _ (s t u : List ℕ) {c : Checked} (ec : c ≡ checkOf s) (good : c ≡ text.Good)
+    {part : List ℕ} (ep : part ≡ definitionTable.filled (definitions s) []) {count : ℕ} (en : count ≡ length (definitions s))
+    {n : ℕ} (el : n ≡ definitionTable.wholeRows (part ++ t)) where
+  same : part ++ t ≡ t
+  same = no-part part t (ap length (ep ∙ filled-empty (definitions s)))
+
+  whole-rows : n ≡ definitionTable.wholeRows t
+  whole-rows = el ∙ ap (λ (l : List ℕ). definitionTable.wholeRows l) same
+
+  abbrev spans : ℕ
+  spans = spanTable.wholeRows u
+
+  pub too-few : n < count → Promise s t u (FewDefinitions count) s (part ++ t) u
+  too-few h =
+      let z : definitionTable.wholeRows t < length (definitions s) = omega (arith, whole-rows, en) in
+      record {
+        answer = ap FewDefinitions en
+            ∙ sym (by-check s (definitionTable.wholeRows t) spans text.Good (sym ec ∙ good) ∙ too-few-definitions (length (definitions s)) (firstDeep s) (length (spanRows s)) (definitionTable.wholeRows t) spans z);
+        definitions = same;
+        spans = refl;
+        note = refl;
+      }
+
+  module _ (h : count ≤ n) {t′ : List ℕ} (et : t′ ≡ definitionTable.filled (definitions s) (part ++ t)) where
+    enough : length (definitions s) ≤ definitionTable.wholeRows t
+    enough = omega (arith, whole-rows, en)
+
+    table : t′ ≡ definitionTable.filled (definitions s) t
+    table = et ∙ ap (definitionTable.filled (definitions s)) same
+
+    pub defined : Defined s t′ count
+    defined = record {
+      short = check-good s .0 (sym ec ∙ good) .0;
+      fit = table-fit s t enough table en;
+      counted = en;
+      rows-are = rw (table, en) (definitions-back (definitions s) t enough);
+    }
+
+    pub all-read : {r : Reading} {u′ : List ℕ} → SpansRead s count u r u′ → Promise s t u r s t′ u′
+    all-read {r} m =
+        let e : r ≡ withSpans (length (definitions s)) (firstDeep s) (length (spanRows s)) spans = m .answer ∙ rw en refl in
+        record {
+          answer = e
+              ∙ sym (by-check s (definitionTable.wholeRows t) spans text.Good (sym ec ∙ good) ∙ enough-definitions (length (definitions s)) (firstDeep s) (length (spanRows s)) (definitionTable.wholeRows t) spans enough);
+          definitions = table ∙ rw (e, rows-there (length (definitions s)) (firstDeep s) (length (spanRows s)) spans) refl;
+          spans = m .spans;
+          note = refl;
+        }

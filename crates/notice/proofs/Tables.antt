@@ -1,0 +1,107 @@
+-- What the tables hold after each answer.
+use Prim.Native.Nat.{ℕ, suc, _*_, _≤_}
+use native.Mathlib.Nat.{zero-mul, suc-mul}
+use native.Mathlib.Omega.{arith}
+use mathlib.Core.Path.{_≡_, refl, sym, ap, _∙_}
+use mathlib.Core.List.{List, [], _∷_, _++_}
+use lib.ListN.{length, drop, length-append, length-drop}
+use lib.Seq.{take-all}
+use Rattle.marking.specs.Spans.{In}
+use Rattle.rows.specs.Rows
+use Rattle.rows.proofs.Filled.{rows-fit}
+use Rattle.row.specs.Row as definitionTable
+use Rattle.row.proofs.Filled.{filled-whole, length-filled}
+use Rattle.definition.specs.Reading.{definitions, paragraphs}
+use Rattle.definition.proofs.Notes.{note-some}
+use Rattle.span.specs.Row as spanTable
+use Rattle.note.specs.Reading.{spanRows}
+use Rattle.note.proofs.SpanRows.{span-rows-iff}
+use Rattle.note.proofs.EachRow.{each-row-iff}
+use Rattle.note.proofs.Fits as fitting
+use Rattle.note.proofs.References.{references-refer}
+use Rattle.notice.specs.declared.Reading.{Reading}
+use Rattle.notice.specs.Law.{DefinitionsCounted, SpansCounted, Enough, Answers, long, bad, few-definitions, deep, few-spans, read}
+use Rattle.notice.specs.Reader.{numberOf, spanNumbers, spansFilled, definitionTableOf, spanTableOf}
+use Rattle.notice.specs.Claims.{DefinitionRows, SpanRows, Tables}
+use Rattle.notice.proofs.Answers.{definition-count, span-count}
+
+-- ---- rows of ten numbers
+length-numbers : (rows : List (List ℕ)) → ((row : List ℕ) → In row rows → length row ≡ spanTable.width) → length (spanNumbers rows) ≡ length rows * spanTable.width
+unfolding Rows.rows
+length-numbers [] w = refl
+length-numbers (x ∷ rows) w =
+    rw length-append (omega (arith, w x (0, refl), length-numbers rows (λ row (k, e). w row (suc k, e)), suc-mul (length rows) spanTable.width))
+
+module _ (s : List ℕ) where
+  span-numbers : length (spanNumbers (spanRows s)) ≡ length (spanRows s) * spanTable.width
+  span-numbers = length-numbers (spanRows s) (λ row i. fitting.rows-fit s row i .wide)
+
+  spans-filled-whole : (u : List ℕ) → length (spanRows s) ≤ spanTable.wholeRows u
+      → spansFilled (spanRows s) u ≡ spanNumbers (spanRows s) ++ drop (length (spanRows s) * spanTable.width) u
+  unfolding Rows.filled
+  spans-filled-whole u h = rw (take-all (spanTable.wholeRows u) (spanRows s) h, span-numbers)
+
+  definition-rows : (t : List ℕ) {t′ : List ℕ} → Enough (definitionTable.wholeRows t) (DefinitionsCounted s) → t′ ≡ definitionTable.filled (definitions s) t → DefinitionRows s t t′
+  definition-rows t w e =
+      let h : length (definitions s) ≤ definitionTable.wholeRows t = omega (arith, definition-count s (w .counted), w .enough) in
+      record { definitions = definitions s; paragraphs = paragraphs s; note = note-some s; fit = h; holds = e ∙ filled-whole (definitions s) t h }
+
+  span-rows : (u : List ℕ) {u′ : List ℕ} → Enough (spanTable.wholeRows u) (SpansCounted s) → u′ ≡ spansFilled (spanRows s) u → SpanRows s u u′
+  span-rows u w e =
+      let h : length (spanRows s) ≤ spanTable.wholeRows u = omega (arith, span-count s (w .counted), w .enough) in
+      record {
+        rows = spanRows s;
+        rows-are = span-rows-iff s (spanRows s) .0 refl;
+        each-once = each-row-iff s (spanRows s) .0 refl;
+        refer = references-refer s;
+        fit = h;
+        holds = e ∙ spans-filled-whole u h;
+      }
+
+  size-of : (u : List ℕ) {u′ : List ℕ} → SpanRows s u u′ → length u′ ≡ length u
+  size-of u r =
+      let e : spanRows s ≡ r .rows = span-rows-iff s (r .rows) .1 (r .rows-are) in
+      let n : length (spanNumbers (r .rows)) ≡ length (r .rows) * spanTable.width = rw e at span-numbers in
+      ap length (r .holds) ∙ rw (length-append, length-drop) (omega (arith, n, rows-fit spanTable.width (length (r .rows)) u (r .fit)))
+
+  -- ---- after each answer
+  module _ (t u : List ℕ) {t′ u′ : List ℕ} (x : Reading) where
+    after-1-2-3 : 1 ≤ numberOf x → numberOf x ≤ 3 → t′ ≡ t → u′ ≡ u → Tables s t u x t′ u′
+    after-1-2-3 lo hi p q =
+        record {
+          unchanged = λ h k. (p, q);
+          definitions-only = λ h. absurd (omega arith);
+          success = λ h. absurd (omega arith);
+          definitions-size = ap length p;
+          spans-size = ap length q;
+        }
+
+    after-4-5 : 4 ≤ numberOf x → Enough (definitionTable.wholeRows t) (DefinitionsCounted s) → t′ ≡ definitionTable.filled (definitions s) t → u′ ≡ u → Tables s t u x t′ u′
+    after-4-5 lo w p q =
+        record {
+          unchanged = λ h k. absurd (omega arith);
+          definitions-only = λ h. (definition-rows t w p, q);
+          success = λ h. absurd (omega arith);
+          definitions-size = ap length p ∙ length-filled (definitions s) t;
+          spans-size = ap length q;
+        }
+
+    after-0 : numberOf x ≡ 0 → Enough (definitionTable.wholeRows t) (DefinitionsCounted s) → Enough (spanTable.wholeRows u) (SpansCounted s)
+        → t′ ≡ definitionTable.filled (definitions s) t → u′ ≡ spansFilled (spanRows s) u → Tables s t u x t′ u′
+    after-0 e w v p q =
+        record {
+          unchanged = λ h k. absurd (omega arith);
+          definitions-only = λ h. absurd (omega arith);
+          success = λ h. (definition-rows t w p, span-rows u v q);
+          definitions-size = ap length p ∙ length-filled (definitions s) t;
+          spans-size = size-of u (span-rows u v q);
+        }
+
+  pub tables-after : (t u : List ℕ) {t′ u′ : List ℕ} (x : Reading) → Answers s (definitionTable.wholeRows t) (spanTable.wholeRows u) x
+      → t′ ≡ definitionTableOf s x t → u′ ≡ spanTableOf s x u → Tables s t u x t′ u′
+  tables-after t u x (long w) p q = after-1-2-3 t u x (omega arith) (omega arith) p q
+  tables-after t u x (bad w f) p q = after-1-2-3 t u x (omega arith) (omega arith) p q
+  tables-after t u x (few-definitions w) p q = after-1-2-3 t u x (omega arith) (omega arith) p q
+  tables-after t u x (deep (g, w, d) f) p q = after-4-5 t u x (omega arith) w p q
+  tables-after t u x (few-spans (g, w, n, v)) p q = after-4-5 t u x (omega arith) w p q
+  tables-after t u x (read (g, w, n, v)) p q = after-0 t u x refl w v p q

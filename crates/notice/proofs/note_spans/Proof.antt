@@ -1,0 +1,78 @@
+-- Each turn reads a paragraph.
+use borrow.Author.Needs.{needs}
+use Prim.Native.Nat.{_-_}
+use lib.ListN.{length}
+use Rattle.notice.proofs.Turns.{Going, starts, same-size, still-same-size, all-passed, less, place-fits, place-within, too-deep, further}
+use Rattle.notice.proofs.note_spans.Statement.{statement}
+use Rattle.notice.proofs.note_spans.Tie as tie
+
+ruleset turns = (starts, same-size, still-same-size, all-passed, less, place-fits, place-within, too-deep, further, needs)
+
+abbrev Inv-loop : tie.InvT-loop
+Inv-loop note definitions count spans₀ at₀ k₀ spans at k = Going note spans₀ spans at k
+
+abbrev μ-loop : tie.MeasureT-loop
+μ-loop note definitions count spans₀ at₀ k₀ spans at k = length note - at
+
+loop-holds : tie.Need-loop-holds Inv-loop μ-loop
+loop-holds c = search turns
+
+next-paragraph-requires : tie.Need-next-paragraph-requires Inv-loop μ-loop
+next-paragraph-requires c κs = search turns
+
+enum-known-start : tie.Need-enum-known-start Inv-loop μ-loop
+enum-known-start c = search turns
+
+enum-told : tie.Need-enum-told Inv-loop μ-loop
+enum-told c = search turns
+
+same-length : tie.Need-same-length Inv-loop μ-loop
+same-length c = search turns
+
+returns : tie.Need-returns Inv-loop μ-loop
+returns c = search turns
+
+read-paragraph-requires : tie.Need-read-paragraph-requires Inv-loop μ-loop
+read-paragraph-requires c κs = search turns
+
+enum-known-place : tie.Need-enum-known-place Inv-loop μ-loop
+enum-known-place c = search turns
+
+add-t16 : tie.Need-add-t16 Inv-loop μ-loop
+add-t16 c = search turns
+
+same-length-2 : tie.Need-same-length-2 Inv-loop μ-loop
+same-length-2 c = search turns
+
+returns-2 : tie.Need-returns-2 Inv-loop μ-loop
+returns-2 c = search turns
+
+enum-known-n : tie.Need-enum-known-n Inv-loop μ-loop
+enum-known-n c = search turns
+
+loop-less : tie.Need-loop-less Inv-loop μ-loop
+loop-less c = search turns
+
+loop-again : tie.Need-loop-again Inv-loop μ-loop
+loop-again c = search turns
+
+pub note-spans-spec : {M : Type 1} → statement M
+note-spans-spec =
+    tie.close
+    (tie.spec
+    Inv-loop
+    μ-loop
+    loop-holds
+    next-paragraph-requires
+    enum-known-start
+    enum-told
+    same-length
+    returns
+    read-paragraph-requires
+    enum-known-place
+    add-t16
+    same-length-2
+    returns-2
+    enum-known-n
+    loop-less
+    loop-again)

@@ -1,0 +1,64 @@
+-- Each return says what was counted and stored before it.
+use borrow.Author.Needs.{needs}
+use Rattle.notice.proofs.Returns.{too-many-open, too-few-rows, all-stored}
+use Rattle.notice.proofs.read_spans.Statement.{statement}
+use Rattle.notice.proofs.read_spans.Tie as tie
+
+ruleset returning = (too-many-open, too-few-rows, all-stored, needs)
+
+slice-relend-prefix-note-spans : tie.Need-slice-relend-prefix-note-spans
+slice-relend-prefix-note-spans c = search needs
+
+slice-aggregate-note-spans : tie.Need-slice-aggregate-note-spans
+slice-aggregate-note-spans c = search needs
+
+note-spans-requires : tie.Need-note-spans-requires
+note-spans-requires c κs = search needs
+
+enum-known-place : tie.Need-enum-known-place
+enum-known-place c = search needs
+
+enum-known-n : tie.Need-enum-known-n
+enum-known-n c = search needs
+
+whole-rows-requires : tie.Need-whole-rows-requires
+whole-rows-requires c κs = search needs
+
+same-length : tie.Need-same-length
+same-length c = search needs
+
+returns : tie.Need-returns
+returns c = search returning
+
+note-spans-requires-2 : tie.Need-note-spans-requires-2
+note-spans-requires-2 c κs = search needs
+
+same-length-2 : tie.Need-same-length-2
+same-length-2 c = search needs
+
+returns-2 : tie.Need-returns-2
+returns-2 c = search returning
+
+same-length-3 : tie.Need-same-length-3
+same-length-3 c = search needs
+
+returns-3 : tie.Need-returns-3
+returns-3 c = search returning
+
+pub read-spans-spec : {M : Type 1} → statement M
+read-spans-spec =
+    tie.close
+    (tie.spec
+    slice-relend-prefix-note-spans
+    slice-aggregate-note-spans
+    note-spans-requires
+    enum-known-place
+    enum-known-n
+    whole-rows-requires
+    same-length
+    returns
+    note-spans-requires-2
+    same-length-2
+    returns-2
+    same-length-3
+    returns-3)

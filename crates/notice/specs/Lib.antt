@@ -1,0 +1,4 @@
+pub mod Law
+pub mod Reader
+pub mod Claims
+pub mod Spans

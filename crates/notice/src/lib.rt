@@ -1,0 +1,78 @@
+// The reader of a notice.
+ghost use mathlib.Core.Path.{_≡_};
+ghost use Rattle.notice.specs.Reader.{Promise};
+ghost use Rattle.notice.specs.Spans.{Defined, NoteMarked, SpansRead};
+use paragraph::Marked;
+use text::Checked;
+use walk::Paragraph;
+
+// What the reader answers: the counts of definitions and spans, or a refusal with its value.
+pub enum Reading {
+    Read(usize, usize),
+    Long(usize),
+    Bad(usize),
+    FewDefinitions(usize),
+    Deep(usize),
+    FewSpans(usize),
+}
+
+// The spans of the note's paragraphs: stores their rows, as many as fit, and counts them; or the place of the first bracket too many.
+fn note_spans(note: &[u8], definitions: &[u32], count: usize, spans: &mut [u32]) -> Marked
+    requires { ⌜ Defined (now note) (now definitions) count ⌝ }
+    ensures { λ r. ⌜ NoteMarked (now (note .entry)) (now (spans .entry)) r (now (spans .exit)) ⌝ }
+{
+    let mut at = 0;
+    let mut k = 0;
+    loop {
+        let Paragraph::At(start, end, next) = walk::next_paragraph(note, at) else {
+            return Marked::Spans(k);
+        };
+        match paragraph::read_paragraph(note, start, end, definitions, count, spans, k) {
+            Marked::Deep(place) => {
+                return Marked::Deep(start + place);
+            }
+            Marked::Spans(n) => {
+                k = n;
+            }
+        }
+        at = next;
+    }
+}
+
+// The answer after refusals 1 to 3: fills the span table, or refuses.
+fn read_spans(note: &[u8], definitions: &[u32], count: usize, spans: &mut [u32]) -> Reading
+    requires { ⌜ Defined (now note) (now definitions) count ⌝ }
+    ensures { λ r. ⌜ SpansRead (now (note .entry)) count (now (spans .entry)) r (now (spans .exit)) ⌝ }
+{
+    match note_spans(note, definitions, count, &mut spans[..0]) {
+        Marked::Deep(place) => Reading::Deep(place),
+        Marked::Spans(n) => {
+            if span::whole_rows(spans) < n {
+                return Reading::FewSpans(n);
+            }
+            note_spans(note, definitions, count, spans);
+            Reading::Read(count, n)
+        }
+    }
+}
+
+// Reads a note: fills the two tables that are lent, or refuses.
+pub fn read(note: &[u8], definitions: &mut [u32], spans: &mut [u32]) -> Reading
+    ensures { λ r. ⌜ Promise (now (note .entry)) (now (definitions .entry)) (now (spans .entry)) r (now (note .exit)) (now (definitions .exit)) (now (spans .exit)) ⌝ }
+{
+    match text::check(note) {
+        Checked::Long(n) => {
+            return Reading::Long(n);
+        }
+        Checked::Bad(k) => {
+            return Reading::Bad(k);
+        }
+        Checked::Good => {}
+    }
+    let count = table::fill_definitions(note, &mut definitions[..0]);
+    if row::whole_rows(definitions) < count {
+        return Reading::FewDefinitions(count);
+    }
+    table::fill_definitions(note, definitions);
+    read_spans(note, definitions, count, spans)
+}

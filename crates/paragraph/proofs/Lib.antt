@@ -1,0 +1,9 @@
+pub mod Tails
+pub mod LinkRows
+pub mod Bounds
+pub mod Pieces
+pub mod Step
+pub mod CodeSteps
+pub mod Loop
+pub mod Turns
+pub mod Answer

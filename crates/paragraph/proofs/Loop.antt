@@ -1,0 +1,171 @@
+-- What the loop keeps: from where the code stands, the scan comes to the same end as from its start.
+use Prim.Native.Nat.{ℕ, _+_, _-_, _≤_, _<_}
+use native.Mathlib.Nat.{add-zero}
+use native.Mathlib.Omega.{arith}
+use mathlib.Core.Path.{_≡_, refl, sym, ap, _∙_}
+use mathlib.Core.Bool.{false}
+use mathlib.Core.Option.{Option, none, some}
+use mathlib.Core.List.{List, [], _∷_, _++_, map, map-append, reverse, tail}
+use lib.Dec.{ltb}
+use lib.ListN.{length, getD, take, length-append, length-map}
+use Rattle.scan.specs.Test.{by}
+use Rattle.marking.specs.Marking.{Role, nothing, opening, closing, trailing, role, Piece}
+use Rattle.marking.specs.Spans as marked
+use Rattle.marking.specs.Grammar.{Grammar}
+use Rattle.marking.specs.Reading.{Found, alone, paired, linked, withTail, isCode, foundClosing, foundBy, stackBy, pieceAt, placeAfter, lastAfter, newSpans}
+use Rattle.marking.specs.Scan.{Scan, scanFound, scanStep, scanStart, finish, spans, overAt, overs, over}
+use Rattle.marking.proofs.Finish.{finish-step, finish-end, overs-step, overs-end, scan-grows}
+use Rattle.row.specs.declared.Definition.{Definition}
+use Rattle.span.specs.declared.Span.{Span}
+use Rattle.span.specs.Row.{stored}
+use Rattle.inline.specs.Tails.{Tail}
+use Rattle.inline.specs.Start.{pieceFrom}
+use Rattle.inline.specs.Grammar.{grammar}
+use Rattle.paragraph.specs.Rows.{rowFor, storedAll}
+use Rattle.paragraph.specs.Walk.{depthLimit, spansAt, Steps, Reads}
+use Rattle.paragraph.specs.declared.Walk.{Walk}
+use Rattle.paragraph.specs.declared.Marked.the-variants.{Spans}
+
+-- ---- rows stored one after the other
+pub stored-more : (t : List ℕ) (k : ℕ) (xs ys : List Span) → storedAll (storedAll t k xs) (k + length xs) ys ≡ storedAll t k (xs ++ ys)
+unfolding storedAll
+stored-more t k [] ys = rw (add-zero k)
+stored-more t k (x ∷ xs) ys =
+    let e : k + length (x ∷ xs) ≡ k + 1 + length xs = omega arith in
+    ap (λ (n : ℕ). storedAll (storedAll (stored t k x) (k + 1) xs) n ys) e ∙ stored-more (stored t k x) (k + 1) xs ys
+
+-- ---- a step of the scan
+module _ {T : Type 0} (g : Grammar T) where
+  few-spans : (f : ℕ → Piece) (q : Piece) (x : Found T) → length (newSpans f q x) ≤ 1
+  few-spans f q alone = by (isCode (q .kind)) (λ e. rw e (omega arith)) (λ e. rw e (omega arith))
+  few-spans f q (paired i) = omega arith
+  few-spans f q (linked i t) = omega arith
+
+  module _ (s : Scan T) (h : s .place < g .size) where
+    -- a tail that the grammar gives ends within the paragraph
+    tail-ends : (r : role (g .kindAt (s .place)) ≡ closing) (o i : ℕ) (x : Option T) → g .tailAt o (s .place) ≡ x → placeAfter g (pieceAt g (s .place)) (withTail i x) ≤ g .size
+    tail-ends r o i none e = g .within (s .place) h
+    tail-ends r o i (some t) e = g .tail-within o (s .place) t h r e
+
+    closing-ends : role (g .kindAt (s .place)) ≡ closing → (st : List ℕ) → placeAfter g (pieceAt g (s .place)) (foundClosing (λ o. g .tailAt (g .endAt o) (s .place)) (s .last-link) st) ≤ g .size
+    closing-ends r [] = g .within (s .place) h
+    closing-ends r (i ∷ st) =
+        by (ltb i (s .last-link)) (λ e. rw e (g .within (s .place) h)) (λ e. rw e (tail-ends r (g .endAt i) i (g .tailAt (g .endAt i) (s .place)) refl))
+
+    role-ends : (x : Role) → role (g .kindAt (s .place)) ≡ x → placeAfter g (pieceAt g (s .place)) (foundBy (λ o. g .tailAt (g .endAt o) (s .place)) (s .last-link) (s .stack) x) ≤ g .size
+    role-ends nothing r = g .within (s .place) h
+    role-ends opening r = g .within (s .place) h
+    role-ends closing r = closing-ends r (s .stack)
+    role-ends trailing r = g .within (s .place) h
+
+    pub scan-within : scanStep g s .place ≤ g .size
+    unfolding scanStep scanFound
+    scan-within = role-ends (role (g .kindAt (s .place))) refl
+
+scan-eq : {T : Type 0} {a a′ : ℕ} {b b′ : List ℕ} {c c′ : ℕ} (xs : List (marked.Span T)) → a ≡ a′ → b ≡ b′ → c ≡ c′
+    → _≡_ {A = Scan T} (record { place = a; stack = b; last-link = c; spans = xs }) (record { place = a′; stack = b′; last-link = c′; spans = xs })
+scan-eq xs ea eb ec = rw (ea, eb, ec)
+
+-- ---- the invariant
+-- at each of the first `depth` places a `[` stands, before place `at`
+abbrev pub Waits : List ℕ → ℕ → List ℕ → ℕ → Type 0
+Waits p at stack depth = (i : ℕ) → i < depth → (getD p (getD stack i 0) 0 ≡ 91) × (getD stack i 0 < at)
+
+module _ (offset : ℕ) (p : List ℕ) (labels : List (List ℕ)) (ds : List Definition) (k : ℕ) (t₀ : List ℕ) where
+  abbrev g : Grammar Tail
+  g = grammar p labels
+
+  abbrev rows : List (marked.Span Tail) → List Span
+  rows = map (rowFor offset p ds)
+
+  -- where the code stands, as a state of the scan; the spans so far are xs
+  abbrev scanOf : List ℕ → ℕ → Walk → List (marked.Span Tail) → Scan Tail
+  scanOf stack depth w xs = record { place = w .at; stack = reverse (take depth stack); last-link = w .last; spans = xs }
+
+  pub record On (stack : List ℕ) (depth : ℕ) (w : Walk) (t : List ℕ) : Type 0 where
+    pub xs : List (marked.Span Tail)
+    pub same-end : finish g (scanOf stack depth w xs) ≡ finish g scanStart
+    pub same-over : overs depthLimit g (scanOf stack depth w xs) ≡ overs depthLimit g scanStart
+    pub row-is : w .row ≡ k + length xs
+    pub table-is : t ≡ storedAll t₀ k (rows xs)
+    pub few : length xs ≤ w .at
+    pub bounded : w .at ≤ length p
+    pub waits : Waits p (w .at) stack depth
+    pub fits : depth ≤ depthLimit
+    pub full : length stack ≡ depthLimit
+
+  pub on-start : (stack : List ℕ) → length stack ≡ depthLimit → On stack 0 (record { at = 0; last = 0; row = k }) t₀
+  unfolding scanStart storedAll
+  on-start stack e =
+      record {
+        xs = [];
+        same-end = refl;
+        same-over = refl;
+        row-is = sym (add-zero k);
+        table-is = refl;
+        few = omega arith;
+        bounded = omega arith;
+        waits = λ i h. absurd (omega arith);
+        fits = omega arith;
+        full = e;
+      }
+
+  module _ {stack : List ℕ} {depth : ℕ} {w : Walk} {t : List ℕ} (o : On stack depth w t) where
+    pub on-end : length p ≤ w .at → Reads offset p labels ds k t₀ (Spans (w .row)) t
+    unfolding over spans
+    on-end h =
+        let f : over depthLimit g ≡ none = sym (o .same-over) ∙ overs-end depthLimit g (scanOf stack depth w (o .xs)) h in
+        let e : spans g ≡ o .xs = ap (λ (s : Scan Tail). s .spans) (sym (o .same-end) ∙ finish-end g (scanOf stack depth w (o .xs)) h) in
+        record {
+          answer = rw (f, e) (ap (λ (n : ℕ). Spans n) (o .row-is));
+          table = λ z. rw e (o .table-is);
+          few = λ z. rw e (omega (arith, o .few, o .bounded));
+        }
+
+    module _ (h : w .at < length p) where
+      abbrev here : Scan Tail
+      here = scanOf stack depth w (o .xs)
+
+      -- the spans that end here
+      abbrev more : Found Tail → List (marked.Span Tail)
+      more = spansAt offset p labels ds (w .at)
+
+      module _ (stack′ : List ℕ) (depth′ : ℕ) {f : Found Tail} {w′ : Walk} {u : List ℕ} (s : Steps offset p labels ds f w t w′ u) (ef : scanFound g here ≡ f)
+          (es : stackBy (w .at) (reverse (take depth stack)) (role (pieceFrom p (w .at) .kind)) ≡ reverse (take depth′ stack′)) where
+        next : scanStep g here ≡ scanOf stack′ depth′ w′ (o .xs ++ more f)
+        unfolding scanStep
+        next =
+            ap
+            (λ (x : Found Tail).
+            (record {
+              place = placeAfter g (pieceAt g (w .at)) x;
+              stack = stackBy (w .at) (reverse (take depth stack)) (role (pieceFrom p (w .at) .kind));
+              last-link = lastAfter (w .last) x;
+              spans = o .xs ++ newSpans (pieceAt g) (pieceAt g (w .at)) x;
+            }))
+            ef
+            ∙ scan-eq (o .xs ++ more f) (sym (s .at)) es (sym (s .last))
+
+        pub on-less : w .at < w′ .at
+        on-less = omega (arith, scan-grows g here h, ap (λ (x : Scan Tail). x .place) next)
+
+        pub on-next : overAt depthLimit g here ≡ false → depth′ ≤ depthLimit → length stack′ ≡ depthLimit → Waits p (w′ .at) stack′ depth′ → On stack′ depth′ w′ u
+        on-next eo fits full waits =
+            let l : length (o .xs ++ more f) ≡ length (o .xs) + length (more f) = length-append (o .xs) (more f) in
+            record {
+              xs = o .xs ++ more f;
+              same-end = ap (finish g) (sym next) ∙ sym (finish-step g here h) ∙ o .same-end;
+              same-over = ap (overs depthLimit g) (sym next) ∙ sym (overs-step depthLimit g here h eo) ∙ o .same-over;
+              row-is = omega (arith, s .row, o .row-is);
+              table-is = table-more;
+              few = omega (arith, o .few, few-spans g (pieceAt g) (pieceAt g (w .at)) f, on-less);
+              bounded = omega (arith, scan-within g here h, ap (λ (x : Scan Tail). x .place) next);
+              waits = waits;
+              fits = fits;
+              full = full;
+            }
+          where
+            table-more : u ≡ storedAll t₀ k (rows (o .xs ++ more f))
+            table-more =
+                let e : w .row ≡ k + length (rows (o .xs)) = rw (length-map (o .xs) (rowFor offset p ds)) (o .row-is) in
+                s .table ∙ rw (o .table-is, e, map-append (rowFor offset p ds) (o .xs) (more f)) (stored-more t₀ k (rows (o .xs)) (rows (more f)))

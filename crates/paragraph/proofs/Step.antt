@@ -1,0 +1,85 @@
+-- One step past a piece, by what the piece comes to.
+use Prim.Native.Nat.{ℕ, _+_, _-_, _≤_, _<_}
+use native.Mathlib.Omega.{arith}
+use mathlib.Core.Path.{_≡_, refl, sym, ap, _∙_}
+use mathlib.Core.Bool.{Bool, true, false, cond}
+use mathlib.Core.Option.{Option, none, some}
+use mathlib.Core.List.{List, [], _∷_}
+use borrow.Author.Tests.{lt-ltb, le-ltb}
+use lib.Dec.{ltb}
+use lib.ListN.{getD}
+use Rattle.marking.specs.Marking.{code, Piece}
+use Rattle.marking.specs.Spans as marked
+use Rattle.marking.specs.Reading.{Found, alone, paired, linked, isCode, withTail, pieceAt}
+use Rattle.row.specs.declared.Definition.{Definition}
+use Rattle.span.specs.declared.Span.{Span}
+use Rattle.span.specs.Row.{stored}
+use Rattle.inline.specs.Tails.{Tail, lengthOf}
+use Rattle.inline.specs.Start.{piece, pieceFrom}
+use Rattle.inline.specs.Grammar.{grammar, tailAt}
+use Rattle.paragraph.specs.Rows.{rowFor, linkRow, storedAll}
+use Rattle.paragraph.specs.Walk.{spansAt, Steps, closing}
+use Rattle.paragraph.specs.declared.Walk.{Walk}
+use Rattle.paragraph.proofs.Pieces.{at-open, at-close}
+
+abbrev codeSpans : Piece → List (marked.Span Tail)
+codeSpans q = marked.codeSpan q ∷ []
+
+module _ (offset : ℕ) (p : List ℕ) (labels : List (List ℕ)) (ds : List Definition) (v : Walk) (t : List ℕ) where
+  abbrev Passed : Found Tail → ℕ → ℕ → ℕ → List ℕ → Type 0
+  Passed f at last row u = Steps offset p labels ds f v t (record { at = at; last = last; row = row }) u
+
+  -- ---- a piece in no pair
+  pub step-quiet : (q : Piece) → pieceFrom p (v .at) ≡ q → isCode (q .kind) ≡ false → Passed alone (q .end) (v .last) (v .row) t
+  unfolding storedAll
+  step-quiet q e k =
+      let z : spansAt offset p labels ds (v .at) alone ≡ [] =
+      ap (λ (x : Piece). cond (isCode (x .kind)) (codeSpans (pieceAt (grammar p labels) (v .at))) []) e
+      ∙ ap (λ (b : Bool). cond b (codeSpans (pieceAt (grammar p labels) (v .at))) []) k in
+      record { at = ap (λ (x : Piece). x .end) (sym e); last = refl; row = rw z (omega arith); table = rw z refl }
+
+  pub step-code : (e : ℕ) → pieceFrom p (v .at) ≡ piece code (v .at) e → {r : Span} {u : List ℕ} → r ≡ rowFor offset p ds (marked.codeSpan (piece code (v .at) e))
+      → u ≡ stored t (v .row) r → Passed alone e (v .last) (v .row + 1) u
+  unfolding storedAll
+  step-code e q er eu =
+      let z : spansAt offset p labels ds (v .at) alone ≡ marked.codeSpan (piece code (v .at) e) ∷ [] =
+      ap (λ (x : Piece). cond (isCode (x .kind)) (codeSpans (piece (x .kind) (v .at) (x .end))) []) q in
+      record { at = ap (λ (x : Piece). x .end) (sym q); last = refl; row = rw z refl; table = rw (z, ← er) eu }
+
+  -- ---- a `]`, with the `[` at place o
+  module _ (o : ℕ) (ho : getD p o 0 ≡ 91) (hc : getD p (v .at) 0 ≡ 93) where
+    tail-here : grammar p labels .tailAt (grammar p labels .endAt o) (v .at) ≡ tailAt p labels (o + 1) (v .at)
+    tail-here = ap (λ (x : Piece). tailAt p labels (x .end) (v .at)) (at-open p o ho)
+
+    closing-by : (b : Bool) → ltb o (v .last) ≡ b → (x : Option Tail) → tailAt p labels (o + 1) (v .at) ≡ x → closing offset p labels ds v o ≡ cond b (paired o) (withTail o x)
+    closing-by b eb x ex =
+        ap (λ (y : Bool). cond y (paired o) (withTail o (grammar p labels .tailAt (grammar p labels .endAt o) (v .at)))) eb
+        ∙ ap (λ (y : Option Tail). cond b (paired o) (withTail o y)) (tail-here ∙ ex)
+
+    paired-step : (f : Found Tail) → f ≡ paired o → Passed f (v .at + 1) (v .last) (v .row) t
+    unfolding storedAll
+    paired-step f e =
+        rw e (record { at = ap (λ (x : Piece). x .end) (sym (at-close p (v .at) hc)); last = refl; row = omega arith; table = refl })
+
+    -- a link opened after it already
+    pub step-held : o < v .last → Passed (closing offset p labels ds v o) (v .at + 1) (v .last) (v .row) t
+    step-held h = paired-step _ (closing-by true (lt-ltb o (v .last) h) _ refl)
+
+    pub step-tailless : v .last ≤ o → none ≡ tailAt p labels (o + 1) (v .at) → Passed (closing offset p labels ds v o) (v .at + 1) (v .last) (v .row) t
+    step-tailless h e = paired-step _ (closing-by false (le-ltb o (v .last) h) _ (sym e))
+
+    linked-step : (f : Found Tail) (x : Tail) → f ≡ linked o x → {n : ℕ} {r : Span} {u : List ℕ} → n ≡ lengthOf x → r ≡ linkRow offset ds o (v .at) x
+        → u ≡ stored t (v .row) r → Passed f (v .at + 1 + n) o (v .row + 1) u
+    unfolding storedAll
+    linked-step f x e en er eu =
+        rw e
+        (record {
+          at = rw (at-close p (v .at) hc, en);
+          last = refl;
+          row = refl;
+          table = rw (at-close p (v .at) hc, at-open p o ho, ← er) eu;
+        })
+
+    pub step-link : v .last ≤ o → (x : Tail) → some x ≡ tailAt p labels (o + 1) (v .at) → {n : ℕ} {r : Span} {u : List ℕ} → n ≡ lengthOf x → r ≡ linkRow offset ds o (v .at) x
+        → u ≡ stored t (v .row) r → Passed (closing offset p labels ds v o) (v .at + 1 + n) o (v .row + 1) u
+    step-link h x e = linked-step _ x (closing-by false (le-ltb o (v .last) h) _ (sym e))

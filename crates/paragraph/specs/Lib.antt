@@ -1,0 +1,5 @@
+pub mod Tail
+pub mod Rows
+pub mod Walk
+pub mod Claims
+pub mod Samples

@@ -1,0 +1,31 @@
+-- The rows of a paragraph's spans, and a table in which they are stored as far as they fit.
+use Prim.Native.Nat.{ℕ, _+_}
+use mathlib.Core.List.{List, [], _∷_, map}
+use Rattle.marking.specs.Marking.{opens, closes}
+use Rattle.marking.specs.Spans as marked
+use Rattle.marking.specs.Scan.{spans}
+use Rattle.row.specs.declared.Definition.{Definition}
+use Rattle.span.specs.declared.Span.{Span}
+use Rattle.span.specs.Row.{span, stored}
+use Rattle.inline.specs.Tails.{Tail}
+use Rattle.inline.specs.Start.{piece}
+use Rattle.inline.specs.Grammar.{grammar}
+use Rattle.inline.specs.Rows.{Target, kindNumber, wholeOf, textOf, fromNote, targetOf}
+
+-- the row of a span of the paragraph p, which starts at place `offset` of the note; ds are the definitions
+abbrev pub rowFor : ℕ → List ℕ → List Definition → marked.Span Tail → Span
+rowFor offset p ds x =
+    let t : Target = targetOf offset ds x in span (kindNumber x) (fromNote offset (wholeOf x)) (fromNote offset (textOf p x)) (t .number) (t .destination) (t .title)
+
+-- of a link from its `[` at place o and its `]` at place c
+abbrev pub linkRow : ℕ → List Definition → ℕ → ℕ → Tail → Span
+linkRow offset ds o c t = rowFor offset [] ds (marked.linkSpan (piece opens o (o + 1)) (piece closes c (c + 1)) t)
+
+-- of all spans that are read, in order
+abbrev pub rowsFor : ℕ → List ℕ → List (List ℕ) → List Definition → List Span
+rowsFor offset p labels ds = map (rowFor offset p ds) (spans (grammar p labels))
+
+-- the table t with these rows from row k on, as far as they fit
+unfoldable pub storedAll : List ℕ → ℕ → List Span → List ℕ
+storedAll t k [] = t
+storedAll t k (x ∷ xs) = storedAll (stored t k x) (k + 1) xs
