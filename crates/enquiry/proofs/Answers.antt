@@ -8,6 +8,7 @@ use mathlib.Core.List.{List, _∷_, _++_, List·Memᴰ·head, Memᴰ·append-rig
 use mathlib.Core.Bool.{true, false, true≢false}
 use lib.ListN.{length, getD, take, drop, take-append-drop, length-map}
 use lib.Seq.{length-take-le, drop-cons, getD-append-add}
+use Rattle.text.specs.Utf8.{GoodNote}
 use Rattle.scan.specs.Test.{by, and-left, and-right}
 use Rattle.scan.specs.declared.Found.{Found}
 use Rattle.scan.specs.declared.Found.the-variants as found
@@ -28,7 +29,7 @@ use Rattle.definition.proofs.Notes.{note-some, note-one}
 use Rattle.walk.proofs.Places.{Lies, definitions-lie}
 use Rattle.enquiry.specs.declared.Enquiry.{Enquiry}
 use Rattle.enquiry.specs.declared.Enquiry.the-variants as enquiry
-use Rattle.enquiry.specs.Law.{NoLabel, GoodNote, GoodLabel, DefinitionsOf, NoDefinition, Defines, Answers}
+use Rattle.enquiry.specs.Law.{NoLabel, GoodLabel, DefinitionsOf, NoDefinition, Defines, Answers}
 use Rattle.enquiry.specs.Law as law
 use Rattle.enquiry.specs.Reading.{nowhere, goodLabel, foundBy, past-end, answerAt, lookedUpIn, lookedUp, checkedEnquiry, enquiryOf}
 

@@ -4,7 +4,7 @@ use mathlib.Core.Path.{_≡_}
 use mathlib.Core.List.{List, _∷_, _++_}
 use mathlib.Core.Logic.{_↔_, _⊎_}
 use lib.ListN.{length}
-use Rattle.text.specs.Utf8.{Clean, FirstBad, noteLimit}
+use Rattle.text.specs.Utf8.{Clean, FirstBad, noteLimit, TooLong, Unclean, GoodNote}
 use Rattle.label.specs.Label.{IsLabel}
 use Rattle.block.specs.Block.{Placed}
 use Rattle.row.specs.declared.Definition.{Definition}
@@ -14,22 +14,9 @@ use Rattle.enquiry.specs.declared.Enquiry.{Enquiry}
 use Rattle.enquiry.specs.declared.Enquiry.the-variants.{Found, Long, Bad, NotLabel, Undefined}
 use Rattle.enquiry.specs.Enquiry.{numberOf, valueOf}
 
--- 1: "note longer than 32,768 bytes"
-abbrev pub TooLong : List ℕ → Type 0
-TooLong note = noteLimit < length note
-
--- 2: "byte 0 or 13, or ill-formed UTF-8"
-abbrev pub Unclean : List ℕ → Type 0
-Unclean s = Clean s → ⊥
-
 -- 8: "the bytes given, set between `[` and `]`, are not exactly one label, or hold byte 0 or 13 or ill-formed UTF-8"
 abbrev pub NoLabel : List ℕ → Type 0
 NoLabel label = (IsLabel label → ⊥) ⊎ Unclean label
-
--- neither 1 nor 2
-pub record GoodNote (note : List ℕ) : Type 0 where
-  pub short : length note ≤ noteLimit
-  pub clean : Clean note
 
 -- not 8
 pub record GoodLabel (label : List ℕ) : Type 0 where

@@ -8,6 +8,7 @@ use mathlib.Core.List.{List}
 use borrow.Author.Tests.{ltb-true, ltb-false}
 use lib.ListN.{length, getElem?}
 use lib.Dec.{ltb}
+use Rattle.text.specs.Utf8.{GoodNote}
 use Rattle.scan.specs.Test.{by}
 use Rattle.text.specs.declared.Checked.{Checked}
 use Rattle.text.specs.declared.Checked.the-variants as text
@@ -25,7 +26,7 @@ use Rattle.note.proofs.SpanRows.{span-rows-iff}
 use Rattle.note.proofs.Depth.{first-deep-iff, never-deep-iff}
 use Rattle.notice.specs.declared.Reading.{Reading}
 use Rattle.notice.specs.declared.Reading.the-variants.{Read, Long, Bad, FewDefinitions, Deep, FewSpans}
-use Rattle.notice.specs.Law.{GoodNote, DefinitionsCounted, SpansCounted, Fewer, Enough, SomeDeep, Due0, Due3, Due4, Due5, Answers, long, bad, few-definitions, deep, few-spans, read}
+use Rattle.notice.specs.Law.{DefinitionsCounted, SpansCounted, Fewer, Enough, SomeDeep, Due0, Due3, Due4, Due5, Answers, long, bad, few-definitions, deep, few-spans, read}
 use Rattle.notice.specs.Reader.{withDefinitions, readingOf}
 use Rattle.notice.proofs.Order.{too-few-definitions, too-deep, too-few-spans, all-read, by-check}
 

@@ -4,7 +4,7 @@ use mathlib.Core.Path.{_≡_}
 use mathlib.Core.Option.{some}
 use mathlib.Core.List.{List}
 use lib.ListN.{length, getElem?}
-use Rattle.text.specs.Utf8.{Clean, FirstBad, noteLimit}
+use Rattle.text.specs.Utf8.{FirstBad, noteLimit, TooLong, Unclean, GoodNote}
 use Rattle.marking.specs.Marking.{Marking}
 use Rattle.marking.specs.Open.{openBrackets}
 use Rattle.block.specs.Block.{Placed}
@@ -14,19 +14,6 @@ use Rattle.inline.specs.Tails.{Tail}
 use Rattle.note.specs.Note.{depthLimit, Marked, SpanRowsAre, FirstDeep, NeverDeep}
 use Rattle.notice.specs.declared.Reading.{Reading}
 use Rattle.notice.specs.declared.Reading.the-variants.{Read, Long, Bad, FewDefinitions, Deep, FewSpans}
-
--- 1: "note longer than 32,768 bytes"
-abbrev pub TooLong : List ℕ → Type 0
-TooLong s = noteLimit < length s
-
--- 2: "byte 0 or 13, or ill-formed UTF-8"
-abbrev pub Unclean : List ℕ → Type 0
-Unclean s = Clean s → ⊥
-
--- neither 1 nor 2
-pub record GoodNote (s : List ℕ) : Type 0 where
-  pub short : length s ≤ noteLimit
-  pub clean : Clean s
 
 -- the note has so many definitions, "repeats too"
 pub record DefinitionsCounted (s : List ℕ) (count : ℕ) : Type 0 where

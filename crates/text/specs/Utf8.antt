@@ -1,5 +1,5 @@
 -- Well-formed UTF-8, good text, and where reading a text first meets no good character.
-use Prim.Native.Nat.{ℕ, suc, _≤_}
+use Prim.Native.Nat.{ℕ, suc, _≤_, _<_}
 use mathlib.Core.Path.{_≡_}
 use mathlib.Core.List.{List, [], _∷_, _++_, List·Memᴰ}
 use lib.ListN.{length}
@@ -98,3 +98,16 @@ pub record FirstBad (s : List ℕ) (k : ℕ) : Type 0 where
 -- "A note is bytes, 0 to 32,768 of them"
 abbrev pub noteLimit : ℕ
 noteLimit = 32768
+
+-- refusal 1: "note longer than 32,768 bytes"
+abbrev pub TooLong : List ℕ → Type 0
+TooLong s = noteLimit < length s
+
+-- refusal 2: "byte 0 or 13, or ill-formed UTF-8"
+abbrev pub Unclean : List ℕ → Type 0
+Unclean s = Clean s → ⊥
+
+-- neither 1 nor 2
+pub record GoodNote (s : List ℕ) : Type 0 where
+  pub short : length s ≤ noteLimit
+  pub clean : Clean s
