@@ -1,5 +1,5 @@
 -- The answer that is read is the one that the law gives.
-use Prim.Native.Nat.{ℕ, suc, _≤_, _<_}
+use Prim.Native.Nat.{ℕ, suc}
 use native.Mathlib.Omega.{arith}
 use mathlib.Core.Path.{_≡_, refl, sym, ap, _∙_, subst}
 use mathlib.Core.Logic.{_↔_}
@@ -26,7 +26,7 @@ use Rattle.note.proofs.SpanRows.{span-rows-iff}
 use Rattle.note.proofs.Depth.{first-deep-iff, never-deep-iff}
 use Rattle.notice.specs.declared.Reading.{Reading}
 use Rattle.notice.specs.declared.Reading.the-variants.{Read, Long, Bad, FewDefinitions, Deep, FewSpans}
-use Rattle.notice.specs.Law.{DefinitionsCounted, SpansCounted, Fewer, Enough, SomeDeep, Due0, Due3, Due4, Due5, Answers, long, bad, few-definitions, deep, few-spans, read}
+use Rattle.notice.specs.Law.{DefinitionsCounted, SpansCounted, Enough, SomeDeep, Answers, long, bad, few-definitions, deep, few-spans, read}
 use Rattle.notice.specs.Reader.{withDefinitions, readingOf}
 use Rattle.notice.proofs.Order.{too-few-definitions, too-deep, too-few-spans, all-read, by-check}
 

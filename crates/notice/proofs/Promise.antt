@@ -1,6 +1,6 @@
 -- What follows from the reader's promise: demand 1 of its answer, what the tables hold, and that no other result keeps it.
 use Prim.Native.Nat.{ℕ}
-use mathlib.Core.Path.{_≡_, refl, sym, ap, _∙_, subst}
+use mathlib.Core.Path.{_≡_, sym, ap, _∙_, subst}
 use mathlib.Core.List.{List}
 use Rattle.row.specs.Row as definitionTable
 use Rattle.span.specs.Row as spanTable

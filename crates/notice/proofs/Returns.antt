@@ -1,7 +1,7 @@
 -- What the reader has done at each return, and that it keeps the promise. A part that was lent empty comes back empty, before the table itself.
 use Prim.Native.Nat.{ℕ, _≤_, _<_, _^_}
 use native.Mathlib.Omega.{arith}
-use mathlib.Core.Path.{_≡_, refl, sym, ap, ap₂, _∙_}
+use mathlib.Core.Path.{_≡_, refl, sym, ap, _∙_}
 use mathlib.Core.Option.{Option, none, some}
 use mathlib.Core.List.{List, [], _∷_, _++_}
 use mathlib.Core.Bool.{false}
@@ -25,7 +25,7 @@ use Rattle.paragraph.specs.declared.Marked.{Marked}
 use Rattle.paragraph.specs.declared.Marked.the-variants as marked
 use Rattle.notice.specs.declared.Reading.{Reading}
 use Rattle.notice.specs.declared.Reading.the-variants.{Read, Long, Bad, FewDefinitions, Deep, FewSpans}
-use Rattle.notice.specs.Reader.{numberOf, withSpans, readingOf, spansFilled, definitionTableOf, spanTableOf, Promise}
+use Rattle.notice.specs.Reader.{numberOf, withSpans, spansFilled, Promise}
 use Rattle.notice.specs.Spans.{Defined, NoteMarked, SpansRead}
 use Rattle.notice.proofs.Order.{by-check, too-few-definitions, enough-definitions}
 use Rattle.notice.proofs.Turns.{was-spans, was-deep}

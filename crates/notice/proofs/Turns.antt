@@ -3,7 +3,7 @@ use Prim.Native.Nat.{ℕ, _+_, _-_, _≤_, _<_, _^_}
 use native.Mathlib.Omega.{arith}
 use mathlib.Core.Path.{_≡_, refl, sym, ap, _∙_, subst}
 use mathlib.Core.Option.{Option, none, some, Option·none-ne-some}
-use mathlib.Core.List.{List, [], _∷_, _++_, map, map-append, append-nil, append-assoc}
+use mathlib.Core.List.{List, [], _++_, map, map-append, append-nil, append-assoc}
 use lib.ListN.{length, drop, length-append, length-map, length-drop}
 use lib.Seq.{length-take-le}
 use Rattle.marking.specs.Scan.{spans, over}
@@ -14,14 +14,14 @@ use Rattle.row.specs.Reading.{definitionsFrom}
 use Rattle.definition.specs.Reading.{definitions}
 use Rattle.walk.specs.declared.Paragraph.{Paragraph}
 use Rattle.walk.specs.declared.Paragraph.the-variants as paragraph
-use Rattle.walk.specs.Walk.{between, paragraphsFrom, FirstParagraph, IsParagraph}
+use Rattle.walk.specs.Walk.{paragraphsFrom, FirstParagraph, IsParagraph}
 use Rattle.walk.proofs.Whole.{all-paragraphs}
 use Rattle.span.specs.declared.Span.{Span}
 use Rattle.span.specs.Row.{numbers, filled}
 use Rattle.span.proofs.Filled.{filled-none, length-filled}
 use Rattle.inline.specs.Grammar.{grammar}
 use Rattle.inline.specs.Rows.{spanRow}
-use Rattle.note.specs.Reading.{labels, rowsIn, spanRows, placeOr, deepIn, firstDeep}
+use Rattle.note.specs.Reading.{labels, rowsIn, spanRows, deepIn, firstDeep}
 use Rattle.note.proofs.Bracket.{first-deep-bracket}
 use Rattle.paragraph.specs.declared.Marked.{Marked}
 use Rattle.paragraph.specs.declared.Marked.the-variants.{Deep, Spans}

@@ -1,0 +1,50 @@
+-- Three numbers make a header.
+use borrow.Author.Needs.{needs}
+use Rattle.samples.specs.Container.{cased}
+use Rattle.samples.proofs.container.header_with.Statement.{statement}
+use Rattle.samples.proofs.container.header_with.Tie as tie
+
+enum-known-definitions : tie.Need-enum-known-definitions
+enum-known-definitions c = search needs
+
+enum-told : tie.Need-enum-told
+enum-told c = search needs
+
+returns : tie.Need-returns
+returns c = search needs
+
+enum-known-spans : tie.Need-enum-known-spans
+enum-known-spans c = search needs
+
+enum-told-2 : tie.Need-enum-told-2
+enum-told-2 c = search needs
+
+returns-2 : tie.Need-returns-2
+returns-2 c = search needs
+
+enum-known-length : tie.Need-enum-known-length
+enum-known-length c = search needs
+
+enum-told-3 : tie.Need-enum-told-3
+enum-told-3 c = search needs
+
+returns-3 : tie.Need-returns-3
+returns-3 c = search needs
+
+returns-4 : tie.Need-returns-4
+returns-4 c = search (cased, needs)
+
+pub header-with-spec : {M : Type 1} → statement M
+header-with-spec =
+    tie.close
+    (tie.spec
+    enum-known-definitions
+    enum-told
+    returns
+    enum-known-spans
+    enum-told-2
+    returns-2
+    enum-known-length
+    enum-told-3
+    returns-3
+    returns-4)

@@ -1,0 +1,19 @@
+-- Each byte that is tested is the one at its place.
+use borrow.Author.Needs.{needs}
+use Rattle.samples.proofs.container.is_ruled.Statement.{statement}
+use Rattle.samples.proofs.container.is_ruled.Tie as tie
+
+peek-requires : tie.Need-peek-requires
+peek-requires c κs = search needs
+
+peek-requires-2 : tie.Need-peek-requires-2
+peek-requires-2 c κs = search needs
+
+peek-requires-3 : tie.Need-peek-requires-3
+peek-requires-3 c κs = search needs
+
+returns : tie.Need-returns
+returns c = rw (c .before .before .peek .ensures, c .before .peek2 .ensures, c .peek3 .ensures)
+
+pub is-ruled-spec : {M : Type 1} → statement M
+is-ruled-spec = tie.close (tie.spec peek-requires peek-requires-2 peek-requires-3 returns)
