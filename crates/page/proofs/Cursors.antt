@@ -1,0 +1,136 @@
+-- The cursors find the rows that the reading looks up: rows of one sort do not overlap, and stand in order.
+use Prim.Native.Nat.{ℕ, _<_}
+use native.Mathlib.Decide.{decLt}
+use native.Mathlib.Omega.{arith}
+use mathlib.Core.Path.{_≡_, refl, sym, ap, _∙_, subst}
+use mathlib.Core.Option.{Option, none, some, Option·some-injective, Option·none-ne-some}
+use mathlib.Core.List.{List, []}
+use mathlib.Core.Bool.{Bool, true, false, true≢false, not}
+use borrow.Author.Tests.{eqb-true, not-true}
+use lib.ListN.{getD, getElem?}
+use Rattle.scan.specs.Test.{by, and-left, and-right}
+use Rattle.marking.specs.Marking.{Marking}
+use Rattle.marking.specs.Spans.{Span, codeSpan, linkSpan, SpanOf, In}
+use Rattle.marking.proofs.Lists.{at-inside}
+use Rattle.block.specs.Block.{Placed}
+use Rattle.row.specs.declared.Definition.{Definition}
+use Rattle.row.specs.First.{labelsOf}
+use Rattle.inline.specs.Tails.{Tail}
+use Rattle.inline.specs.Rows.{spanRow, rowEnd}
+use Rattle.inline.proofs.SpanBounds.{span-within}
+use Rattle.note.specs.Note.{MarkingOf}
+use Rattle.note.specs.Reading.{spanRows}
+use Rattle.note.proofs.Markings.{marked}
+use Rattle.note.proofs.Rows.{in-rows-iff}
+use Rattle.note.proofs.Spans.{link-read, code-some}
+use Rattle.note.proofs.Placing.{at-getD}
+use Rattle.page.specs.Reading.{isCode, rowStart, textEnd, firstRow, codeStarts, linkStarts, linkCloses}
+use Rattle.page.specs.Cursor.{NextCode, NextLink, passing}
+use Rattle.page.proofs.Found.{by-found, found-in, not-found}
+use Rattle.page.proofs.Here.{marking-of}
+use Rattle.page.proofs.Apart.{rows-apart}
+
+-- ---- no row is empty, and a link's text ends within it
+module _ (s : List ℕ) (ds : List Definition) (q : Placed) (m : Marking Tail) (c : MarkingOf s ds q m) where
+  span-some : (x : Span Tail) → SpanOf m x → rowStart (spanRow (q .at) (q .bytes) ds x) < rowEnd (spanRow (q .at) (q .bytes) ds x)
+  span-some (codeSpan y) o = omega (arith, code-some (q .bytes) (labelsOf s ds) m c y o)
+  span-some (linkSpan a b t) o =
+      let r = link-read (q .bytes) (labelsOf s ds) m c a b t o in
+      let w = span-within (q .bytes) (labelsOf s ds) m c (linkSpan a b t) o in
+      omega (arith, r .some-bracket, r .one-bracket, w .text-ordered)
+
+  link-ends : (x : Span Tail) → SpanOf m x → isCode (spanRow (q .at) (q .bytes) ds x) ≡ false
+      → (rowStart (spanRow (q .at) (q .bytes) ds x) < textEnd (spanRow (q .at) (q .bytes) ds x)) × (textEnd (spanRow (q .at) (q .bytes) ds x) < rowEnd (spanRow (q .at) (q .bytes) ds x))
+  link-ends (codeSpan y) o e = absurd (true≢false e)
+  link-ends (linkSpan a b t) o e =
+      let r = link-read (q .bytes) (labelsOf s ds) m c a b t o in
+      let w = span-within (q .bytes) (labelsOf s ds) m c (linkSpan a b t) o in
+      (omega (arith, r .some-bracket, w .text-ordered), omega (arith, r .one-bracket))
+
+module _ (s : List ℕ) where
+  pub row-some : (row : List ℕ) → In row (spanRows s) → rowStart row < rowEnd row
+  row-some row i =
+      let r = in-rows-iff s (marked s) row .0 i in
+      let c = marking-of s (marked s) (r .index) (r .paragraph) (r .marking) (r .paragraph-at) (r .marking-at) in
+      subst (λ (x : List ℕ). rowStart x < rowEnd x) (r .row-is) (span-some s (marked s .definitions) (r .paragraph) (r .marking) c (r .span) (r .of-marking))
+
+  pub link-text : (row : List ℕ) → In row (spanRows s) → isCode row ≡ false → (rowStart row < textEnd row) × (textEnd row < rowEnd row)
+  link-text row i e =
+      let r = in-rows-iff s (marked s) row .0 i in
+      let c = marking-of s (marked s) (r .index) (r .paragraph) (r .marking) (r .paragraph-at) (r .marking-at) in
+      subst (λ (x : List ℕ). (rowStart x < textEnd x) × (textEnd x < rowEnd x)) (r .row-is)
+      (link-ends s (marked s .definitions) (r .paragraph) (r .marking) c (r .span) (r .of-marking) (ap isCode (r .row-is) ∙ e))
+
+-- ---- the first row that passes a test stands at the cursor, if no row before it passes, nor one after the row there
+module _ (test : List ℕ → Bool) (rows : List (List ℕ)) (cursor : ℕ) (before : (j : ℕ) (r : List ℕ) → j < cursor → getElem? rows j ≡ some r → test r ≡ true → ⊥)
+    (after : (j : ℕ) (x r : List ℕ) → cursor < j → getElem? rows cursor ≡ some x → getElem? rows j ≡ some r → test r ≡ true → ⊥) where
+  at-cursor : (o : Option (List ℕ)) → getElem? rows cursor ≡ o → (j : ℕ) (r : List ℕ) → getElem? rows j ≡ some r → test r ≡ true → o ≡ some r
+  at-cursor o e j r d t = cases o e (decLt j cursor) (decLt cursor j)
+    where
+      cases : (o : Option (List ℕ)) → getElem? rows cursor ≡ o → Dec (j < cursor) → Dec (cursor < j) → o ≡ some r
+      cases o e (yes z) w = absurd (before j r z d t)
+      cases (some x) e (no z) (yes w) = absurd (after j x r w e d t)
+      cases none e (no z) (yes w) = absurd (Option·none-ne-some (getD rows cursor []) (sym e ∙ at-getD rows cursor [] (omega (arith, at-inside rows j r d))))
+      cases o e (no z) (no w) = let k : cursor ≡ j = omega arith in sym e ∙ ap (getElem? rows) k ∙ d
+
+  passing-some : (o : Option (List ℕ)) (r : List ℕ) → o ≡ some r → test r ≡ true → passing test o ≡ some r
+  passing-some none r e t = absurd (Option·none-ne-some r e)
+  passing-some (some x) r e t = let k = Option·some-injective x r e in let y : test x ≡ true = ap test k ∙ t in rw y e
+
+  passing-none : (o : Option (List ℕ)) → getElem? rows cursor ≡ o → firstRow test rows ≡ none → passing test o ≡ none
+  passing-none none e n = refl
+  passing-none (some x) e n = by (test x) (λ t. absurd (not-found test rows n x (cursor, e) t)) (λ f. rw f refl)
+
+  cursor-finds : firstRow test rows ≡ passing test (getElem? rows cursor)
+  cursor-finds =
+      by-found (firstRow test rows)
+      (λ r f. let (i, t) = found-in test rows r f in f ∙ sym (passing-some (getElem? rows cursor) r (at-cursor (getElem? rows cursor) refl (i .0) r (i .1) t) t))
+      (λ n. n ∙ sym (passing-none (getElem? rows cursor) refl n))
+
+module _ (s : List ℕ) (cursor i : ℕ) where
+  pub code-at-cursor : NextCode (spanRows s) cursor i → firstRow (codeStarts i) (spanRows s) ≡ passing (codeStarts i) (getElem? (spanRows s) cursor)
+  code-at-cursor n = cursor-finds (codeStarts i) (spanRows s) cursor before after
+    where
+      before : (j : ℕ) (r : List ℕ) → j < cursor → getElem? (spanRows s) j ≡ some r → codeStarts i r ≡ true → ⊥
+      before j r l e t =
+          let st : rowStart r ≡ i = eqb-true (rowStart r) i (and-right (isCode r) _ t) in
+          absurd (omega (arith, n .before j r l e (and-left (isCode r) _ t)))
+
+      after : (j : ℕ) (x r : List ℕ) → cursor < j → getElem? (spanRows s) cursor ≡ some x → getElem? (spanRows s) j ≡ some r → codeStarts i r ≡ true → ⊥
+      after j x r l d e t =
+          let st : rowStart r ≡ i = eqb-true (rowStart r) i (and-right (isCode r) _ t) in
+          let (c, h) = n .there x d in
+          absurd (omega (arith, rows-apart s cursor j x r l d e (c ∙ sym (and-left (isCode r) _ t)), row-some s x (cursor, d)))
+
+  module _ (n : NextLink (spanRows s) cursor i) where
+    -- a link row that is not the one at the cursor neither starts nor has its text's end at i
+    before : (j : ℕ) (r : List ℕ) → j < cursor → getElem? (spanRows s) j ≡ some r → isCode r ≡ false → (rowStart r < i) × (textEnd r < i)
+    before j r l e c = let (u, v) = link-text s r (j, e) c in (omega (arith, n .before j r l e c), omega (arith, n .before j r l e c))
+
+    after : (j : ℕ) (x r : List ℕ) → cursor < j → getElem? (spanRows s) cursor ≡ some x → getElem? (spanRows s) j ≡ some r → isCode r ≡ false → (i < rowStart r) × (i < textEnd r)
+    after j x r l d e c =
+        let (c′, h) = n .there x d in
+        let a = rows-apart s cursor j x r l d e (c′ ∙ sym c) in
+        let (u, v) = link-text s r (j, e) c in
+        let (u′, v′) = link-text s x (cursor, d) c′ in
+        (omega arith, omega arith)
+
+    pub opening-at-cursor : firstRow (linkStarts i) (spanRows s) ≡ passing (linkStarts i) (getElem? (spanRows s) cursor)
+    opening-at-cursor =
+        cursor-finds (linkStarts i) (spanRows s) cursor
+        (λ j r l e t.
+        let st : rowStart r ≡ i = eqb-true (rowStart r) i (and-right (not (isCode r)) _ t) in
+        absurd (omega (arith, before j r l e (not-true _ (and-left (not (isCode r)) _ t)) .0)))
+        (λ j x r l d e t.
+        let st : rowStart r ≡ i = eqb-true (rowStart r) i (and-right (not (isCode r)) _ t) in
+        absurd (omega (arith, after j x r l d e (not-true _ (and-left (not (isCode r)) _ t)) .0)))
+
+    pub closing-at-cursor : firstRow (linkCloses i) (spanRows s) ≡ passing (linkCloses i) (getElem? (spanRows s) cursor)
+    closing-at-cursor =
+        cursor-finds (linkCloses i) (spanRows s) cursor
+        (λ j r l e t.
+        let st : textEnd r ≡ i = eqb-true (textEnd r) i (and-right (not (isCode r)) _ t) in
+        absurd (omega (arith, before j r l e (not-true _ (and-left (not (isCode r)) _ t)) .1)))
+        (λ j x r l d e t.
+        let st : textEnd r ≡ i = eqb-true (textEnd r) i (and-right (not (isCode r)) _ t) in
+        absurd (omega (arith, after j x r l d e (not-true _ (and-left (not (isCode r)) _ t)) .1)))

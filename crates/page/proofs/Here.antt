@@ -1,0 +1,95 @@
+-- The rows that stand in a paragraph are those of its marking: paragraphs do not overlap.
+use Prim.Native.Nat.{ℕ, zero, suc, _+_, _≤_, _<_}
+use native.Mathlib.Omega.{arith}
+use mathlib.Core.Path.{_≡_, refl, sym, ap, _∙_, subst}
+use mathlib.Core.Logic.{_≢_}
+use mathlib.Core.Option.{some, Option·some-injective, Option·none-ne-some}
+use mathlib.Core.List.{List}
+use mathlib.Core.Bool.{false, true≢false}
+use lib.ListN.{length, getElem?}
+use Rattle.marking.specs.Marking.{role, Marking}
+use Rattle.marking.specs.Spans.{Span, codeSpan, linkSpan, SpanOf}
+use Rattle.marking.proofs.Roles.{nothing≢trailing, opening≢trailing, closing≢trailing}
+use Rattle.block.specs.Block.{Placed}
+use Rattle.row.specs.declared.Definition.{Definition}
+use Rattle.definition.specs.Reading.{paragraphs}
+use Rattle.definition.proofs.Notes.{note-iff}
+use Rattle.definition.proofs.NotePlaces.{Ordered, done, next, paragraphs-in-order}
+use Rattle.inline.specs.Tails.{Tail}
+use Rattle.inline.specs.Rows.{spanRow}
+use Rattle.note.specs.Note.{MarkingOf, Marked, RowOf}
+use Rattle.note.specs.Reading.{spanRows}
+use Rattle.note.proofs.Members.{pair-at}
+use Rattle.note.proofs.Rows.{in-rows-iff}
+use Rattle.page.specs.Reading.{isCode, rowStart, textEnd}
+use Rattle.page.proofs.Pieces.{RowHere, RowsHere, stands-inside, opening-role, closing-role}
+
+pub starts-after : {s : List ℕ} {from : ℕ} {ps : List Placed} → Ordered s from ps → (k : ℕ) (q : Placed) → getElem? ps k ≡ some q → from ≤ q .at
+starts-after done k q e = absurd (Option·none-ne-some q e)
+starts-after (next {from = f} {p = p} h w o) zero q e = subst (λ (x : Placed). f ≤ x .at) (Option·some-injective p q e) h
+starts-after (next h w o) (suc k) q e = omega (arith, starts-after o k q e)
+
+-- two paragraphs that share a place are one
+same-paragraph : {s : List ℕ} {from : ℕ} {ps : List Placed} → Ordered s from ps → (j k : ℕ) (a b : Placed) → getElem? ps j ≡ some a → getElem? ps k ≡ some b
+    → (x y : ℕ) → x < length (a .bytes) → y < length (b .bytes) → a .at + x ≡ b .at + y → j ≡ k
+same-paragraph done j k a b e d x y h l z = absurd (Option·none-ne-some a e)
+same-paragraph (next w i o) zero zero a b e d x y h l z = refl
+same-paragraph (next {p = p} w i o) zero (suc k) a b e d x y h l z =
+    let t : p .at + length (p .bytes) ≤ b .at = starts-after o k b d in
+    let u : a .at + length (a .bytes) ≤ b .at = subst (λ (v : Placed). v .at + length (v .bytes) ≤ b .at) (Option·some-injective p a e) t in
+    absurd (omega arith)
+same-paragraph (next {p = p} w i o) (suc j) zero a b e d x y h l z =
+    let t : p .at + length (p .bytes) ≤ a .at = starts-after o j a e in
+    let u : b .at + length (b .bytes) ≤ a .at = subst (λ (v : Placed). v .at + length (v .bytes) ≤ a .at) (Option·some-injective p b d) t in
+    absurd (omega arith)
+same-paragraph (next w i o) (suc j) (suc k) a b e d x y h l z = ap suc (same-paragraph o j k a b e d x y h l z)
+
+-- a span starts within its paragraph, and so does a link's closing bracket
+module _ (s : List ℕ) (ds : List Definition) (q : Placed) (m : Marking Tail) (c : MarkingOf s ds q m) where
+  span-starts : (x : Span Tail) → SpanOf m x → (i : ℕ) × (i < length (q .bytes)) × (rowStart (spanRow (q .at) (q .bytes) ds x) ≡ q .at + i)
+  span-starts (codeSpan y) o = (y .start, stands-inside s ds q m c (o .index) y (o .at) (λ z. nothing≢trailing (ap role (sym (o .is-code)) ∙ z)), refl)
+  span-starts (linkSpan a b t) o = (a .start, stands-inside s ds q m c (o .from) a (o .open-at) (λ z. opening≢trailing (sym (opening-role s ds q m c a b t o) ∙ z)), refl)
+
+  link-closes : (x : Span Tail) → SpanOf m x → isCode (spanRow (q .at) (q .bytes) ds x) ≡ false
+      → (i : ℕ) × (i < length (q .bytes)) × (textEnd (spanRow (q .at) (q .bytes) ds x) ≡ q .at + i)
+  link-closes (codeSpan y) o e = absurd (true≢false e)
+  link-closes (linkSpan a b t) o e = (b .start, stands-inside s ds q m c (o .to) b (o .close-at) (λ z. closing≢trailing (sym (closing-role s ds q m c a b t o) ∙ z)), refl)
+
+module _ (s : List ℕ) (n : Marked s) where
+  pub in-order : Ordered s 0 (n .paragraphs)
+  in-order = let (d, p) = note-iff s (n .definitions) (n .paragraphs) .1 (n .note) in subst (Ordered s 0) p (paragraphs-in-order s)
+
+  pub marking-of : (k : ℕ) (q : Placed) (m : Marking Tail) → getElem? (n .paragraphs) k ≡ some q → getElem? (n .markings) k ≡ some m → MarkingOf s (n .definitions) q m
+  marking-of k q m e d = pair-at (n .each) k q m e d
+
+  module _ (k : ℕ) (q : Placed) (m : Marking Tail) (e : getElem? (n .paragraphs) k ≡ some q) (d : getElem? (n .markings) k ≡ some m) where
+    -- a row whose paragraph has the index k
+    pub row-of : (row : List ℕ) (r : RowOf (n .definitions) (n .paragraphs) (n .markings) row) → r .index ≡ k → RowHere (n .definitions) q m row
+    row-of row r z =
+        let a : r .paragraph ≡ q = Option·some-injective (r .paragraph) q (sym (r .paragraph-at) ∙ ap (getElem? (n .paragraphs)) z ∙ e) in
+        let b : r .marking ≡ m = Option·some-injective (r .marking) m (sym (r .marking-at) ∙ ap (getElem? (n .markings)) z ∙ d) in
+        record {
+          span = r .span;
+          of-marking = subst (λ (y : Marking Tail). SpanOf y (r .span)) b (r .of-marking);
+          row-is = ap (λ (y : Placed). spanRow (y .at) (y .bytes) (n .definitions) (r .span)) (sym a) ∙ r .row-is;
+        }
+
+    pub rows-here : RowsHere (n .definitions) q m (spanRows s)
+    rows-here =
+        record {
+          each = λ x o.
+              in-rows-iff s n (spanRow (q .at) (q .bytes) (n .definitions) x) .1
+              (record { index = k; paragraph = q; paragraph-at = e; marking = m; marking-at = d; span = x; of-marking = o; row-is = refl });
+          starting = λ row h i l z.
+              let r = in-rows-iff s n row .0 h in
+              let (j, y, t) = span-starts s (n .definitions) (r .paragraph) (r .marking) (marking-of (r .index) (r .paragraph) (r .marking) (r .paragraph-at) (r .marking-at)) (r .span) (r .of-marking) in
+              let place : r .paragraph .at + j ≡ q .at + i = sym t ∙ ap rowStart (r .row-is) ∙ z in
+              row-of row r (same-paragraph in-order (r .index) k (r .paragraph) q (r .paragraph-at) e j i y l place);
+          closing = λ row h code i l z.
+              let r = in-rows-iff s n row .0 h in
+              let (j, y, t) =
+              link-closes s (n .definitions) (r .paragraph) (r .marking) (marking-of (r .index) (r .paragraph) (r .marking) (r .paragraph-at) (r .marking-at)) (r .span) (r .of-marking)
+              (ap isCode (r .row-is) ∙ code) in
+              let place : r .paragraph .at + j ≡ q .at + i = sym t ∙ ap textEnd (r .row-is) ∙ z in
+              row-of row r (same-paragraph in-order (r .index) k (r .paragraph) q (r .paragraph-at) e j i y l place);
+        }

@@ -1,0 +1,99 @@
+-- How long a page can be: for each byte of a paragraph at most the longest tag, and for each paragraph its two tags.
+use Prim.Native.Nat.{ℕ, zero, suc, _+_, _*_, _-_, _≤_, _<_}
+use native.Mathlib.Omega.{arith}
+use mathlib.Core.Path.{subst}
+use mathlib.Core.Option.{Option, none, some}
+use mathlib.Core.List.{List, [], _∷_, _++_, flatMap}
+use lib.ListN.{length, getD, length-append, length-take, length-drop}
+use lib.Dec.{leb, lit≤}
+use Rattle.scan.specs.Test.{by}
+use Rattle.text.specs.Utf8.{noteLimit}
+use Rattle.block.specs.Block.{Placed}
+use Rattle.block.proofs.Places as block
+use Rattle.row.specs.declared.Range.{Range}
+use Rattle.row.specs.First.{bytesOf}
+use Rattle.definition.specs.Reading.{paragraphFrom, paragraphOf, definitionsOf, paragraphsIn, paragraphs, upToEnd}
+use Rattle.definition.proofs.NotePlaces.{Ordered, done, next, paragraphs-in-order}
+use Rattle.note.specs.Reading.{spanRows}
+use Rattle.html.specs.Page.{escaped, paragraphOpen, paragraphClose}
+use Rattle.html.specs.Reading.{undone, backslash}
+use Rattle.html.specs.Stored.{pageMost}
+use Rattle.html.proofs.Lengths.{text-most, code-span-most, open-most}
+use Rattle.page.specs.Page.{PageIs}
+use Rattle.page.specs.Reading.{text, destination, title, writtenBy, writtenAt, firstRow, codeStarts, linkStarts, linkCloses, contentFrom, paragraphPage, pageBy, pageOf}
+use Rattle.page.proofs.Page.{page-iff}
+
+part-most : (s : List ℕ) (r : Range) → length (bytesOf s r) ≤ length s
+part-most s r = simp (length-take, length-drop) (omega arith)
+
+escaped-most : (b : ℕ) → length (escaped b) ≤ 6
+unfolding undone flatMap
+escaped-most b = omega (arith, text-most (b ∷ []), length-append (escaped b) [])
+
+-- ---- paragraphs: there are at most as many as bytes, and so is the sum of their lengths
+abbrev total : List Placed → ℕ
+total [] = 0
+total (q ∷ ps) = length (q .bytes) + total ps
+
+total-most : {s : List ℕ} {from : ℕ} {ps : List Placed} → Ordered s from ps → from ≤ length s → from + total ps ≤ length s
+total-most done h = omega arith
+total-most (next k w o) h = omega (arith, w .inside, total-most o (w .inside))
+
+one-most : (s : List ℕ) (at : ℕ) → length (paragraphFrom s at) ≤ 1
+unfolding paragraphFrom
+one-most s at = by (leb (length s) at) (λ e. rw e (lit≤ tt)) (λ e. rw e (lit≤ tt))
+
+count-in : {s : List ℕ} {from : ℕ} {bs : List Placed} → block.InOrder s from bs → from ≤ length s → from + length (paragraphsIn s bs) ≤ length s
+unfolding paragraphsIn paragraphOf
+count-in block.done h = omega arith
+count-in {s} (block.next {b = b} {bs = bs} k w o) h =
+    omega (arith, w .inside, w .some, count-in o (w .inside), one-most (upToEnd s b) (definitionsOf s b .after), length-append (paragraphFrom (upToEnd s b) (definitionsOf s b .after)) (paragraphsIn s bs))
+
+count-most : (s : List ℕ) → length (paragraphs s) ≤ length s
+unfolding paragraphs
+count-most s = let z : 0 ≤ length s = omega arith in omega (arith, count-in (block.blocks-in-order s) z)
+
+-- ---- the page
+-- the longest opening tag of a link in a note within the length limit
+abbrev tagMost : ℕ
+tagMost = 393_236
+
+module _ (s : List ℕ) (h : length s ≤ noteLimit) (rows : List (List ℕ)) where
+  written-most : (a o c : Option (List ℕ)) (l : List ℕ) → length (writtenBy s a o c l .bytes) ≤ tagMost
+  unfolding writtenBy
+  written-most (some r) o c l = omega (arith, code-span-most (bytesOf s (text r)), part-most s (text r))
+  written-most none (some r) c l = omega (arith, open-most (bytesOf s (destination r)) (bytesOf s (title r)), part-most s (destination r), part-most s (title r))
+  written-most none none (some r) l = lit≤ tt
+  written-most none none none l = omega (arith, escaped-most (getD l (backslash l) 0))
+
+  content-most : (k : ℕ) (l : List ℕ) (at : ℕ) → length (contentFrom s rows k l at) ≤ tagMost * length l
+  unfolding contentFrom
+  content-most k [] at = lit≤ tt
+  content-most zero (b ∷ l) at =
+      let n = writtenAt s rows (b ∷ l) at .size - 1 in
+      omega (
+        arith,
+        written-most (firstRow (codeStarts at) rows) (firstRow (linkStarts at) rows) (firstRow (linkCloses at) rows) (b ∷ l),
+        content-most n l (at + 1),
+        length-append (writtenAt s rows (b ∷ l) at .bytes) (contentFrom s rows n l (at + 1)),
+      )
+  content-most (suc k) (b ∷ l) at = omega (arith, content-most k l (at + 1))
+
+  paragraph-most : (q : Placed) → length (paragraphPage s rows q) ≤ 8 + tagMost * length (q .bytes)
+  unfolding paragraphPage
+  paragraph-most q =
+      let w = contentFrom s rows 0 (q .bytes) (q .at) in
+      omega (arith, content-most 0 (q .bytes) (q .at), length-append paragraphOpen w, length-append (paragraphOpen ++ w) paragraphClose)
+
+  in-most : (ps : List Placed) → length (flatMap (paragraphPage s rows) ps) ≤ 8 * length ps + tagMost * total ps
+  unfolding flatMap
+  in-most [] = lit≤ tt
+  in-most (q ∷ ps) = omega (arith, paragraph-most q, in-most ps, length-append (paragraphPage s rows q) (flatMap (paragraphPage s rows) ps))
+
+-- the page of a note within the length limit is shorter than the most that a page is counted to
+pub page-most : (s : List ℕ) → length s ≤ noteLimit → length (pageOf s) < pageMost
+unfolding pageOf pageBy
+page-most s h = let z : 0 ≤ length s = omega arith in omega (arith, in-most s h (spanRows s) (paragraphs s), count-most s, total-most (paragraphs-in-order s) z)
+
+pub law-most : (s w : List ℕ) → length s ≤ noteLimit → PageIs s w → length w < pageMost
+law-most s w h p = subst (λ (x : List ℕ). length x < pageMost) (page-iff s w .1 p) (page-most s h)

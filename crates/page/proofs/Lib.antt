@@ -1,0 +1,20 @@
+-- the reading over a paragraph's bytes, and the rows that stand in a paragraph
+pub mod Found
+pub mod Turns
+pub mod Pieces
+pub mod Texts
+pub mod Steps
+pub mod Content
+pub mod Here
+-- the page by the rows is the page by the law
+pub mod Page
+pub mod ByRows
+-- what a page holds, and how long it is
+pub mod Safety
+pub mod Lengths
+pub mod Claims
+-- cursors into the rows
+pub mod Apart
+pub mod Cursors
+-- the samples by the law
+pub mod Bench

@@ -1,0 +1,115 @@
+-- The turns of the reading over a paragraph's bytes.
+use Prim.Native.Nat.{ℕ, zero, suc, _+_, _-_, _≤_, _<_}
+use native.Mathlib.Nat.{add-zero}
+use native.Mathlib.Omega.{arith}
+use mathlib.Core.Path.{_≡_, refl, sym, ap, _∙_}
+use mathlib.Core.Option.{none, some}
+use mathlib.Core.List.{List, [], _∷_, _++_, flatMap, append-assoc}
+use mathlib.Core.Bool.{true, false}
+use lib.ListN.{length, getD, take, drop, drop-of-length-le}
+use lib.Seq.{drop-drop, getD-drop}
+use Rattle.scan.specs.Byte.{escapes}
+use Rattle.scan.specs.Scan.{at-cons}
+use Rattle.row.specs.First.{bytesOf}
+use Rattle.inline.specs.Rows.{rowEnd}
+use Rattle.html.specs.Page.{escaped, linkClose}
+use Rattle.html.specs.Reading.{codeSpan, linkOpen}
+use Rattle.page.specs.Reading.{rowStart, textEnd, text, destination, title, Written, unit, firstRow, codeStarts, linkStarts, linkCloses, writtenBy, writtenAt, contentFrom}
+
+module _ (s : List ℕ) (rows : List (List ℕ)) where
+  content-over : (k : ℕ) (l : List ℕ) (at : ℕ) → contentFrom s rows k l at ≡ contentFrom s rows 0 (drop k l) (at + k)
+  unfolding contentFrom
+  content-over zero l at = rw (add-zero at)
+  content-over (suc k) [] at = refl
+  content-over (suc k) (b ∷ l) at = content-over k l (at + 1) ∙ ap (contentFrom s rows 0 (drop k l)) (omega arith)
+
+  content-cons : (b : ℕ) (l : List ℕ) (at n : ℕ) {w : Written} → writtenAt s rows (b ∷ l) at ≡ w → w .size ≡ suc n
+      → contentFrom s rows 0 (b ∷ l) at ≡ w .bytes ++ contentFrom s rows 0 (drop n l) (at + suc n)
+  unfolding contentFrom
+  content-cons b l at n {w} q e =
+      let k : w .size - 1 ≡ n = omega arith in
+      ap (λ (x : Written). x .bytes ++ contentFrom s rows (x .size - 1) l (at + 1)) q
+      ∙ ap (λ (j : ℕ). w .bytes ++ contentFrom s rows j l (at + 1)) k
+      ∙ ap (λ (v : List ℕ). w .bytes ++ v) (content-over n l (at + 1) ∙ ap (contentFrom s rows 0 (drop n l)) (omega arith))
+
+-- the paragraph p at place `off` of the note s
+module _ (s : List ℕ) (rows : List (List ℕ)) (p : List ℕ) (off : ℕ) where
+  -- the page of the paragraph from its place a on
+  abbrev pub from : ℕ → List ℕ
+  from a = contentFrom s rows 0 (drop a p) (off + a)
+
+  abbrev pub here : ℕ → Written
+  here a = writtenAt s rows (drop a p) (off + a)
+
+  pub at-end : from (length p) ≡ []
+  unfolding contentFrom
+  at-end = let h : length p ≤ length p = omega arith in rw (drop-of-length-le p h)
+
+  pub turn : (a n : ℕ) {w : Written} → a < length p → here a ≡ w → w .size ≡ suc n → from a ≡ w .bytes ++ from (a + suc n)
+  turn a n {w} h q e =
+      let k = at-cons p a h in
+      let j : a + 1 + n ≡ a + suc n = omega arith in
+      let z : drop n (drop (a + 1) p) ≡ drop (a + suc n) p = drop-drop n (a + 1) p ∙ ap (λ (i : ℕ). drop i p) j in
+      let y : off + a + suc n ≡ off + (a + suc n) = omega arith in
+      let g : writtenAt s rows (getD p a 0 ∷ drop (a + 1) p) (off + a) ≡ w = ap (λ (l : List ℕ). writtenAt s rows l (off + a)) (sym k) ∙ q in
+      ap (λ (l : List ℕ). contentFrom s rows 0 l (off + a)) k
+      ∙ content-cons s rows (getD p a 0) (drop (a + 1) p) (off + a) n g e
+      ∙ rw (z, y) refl
+
+  -- no row stands at the place a
+  pub record Bare (a : ℕ) : Type 0 where
+    pub no-code : firstRow (codeStarts (off + a)) rows ≡ none
+    pub no-opening : firstRow (linkStarts (off + a)) rows ≡ none
+    pub no-closing : firstRow (linkCloses (off + a)) rows ≡ none
+
+  bare-unit : (a : ℕ) → Bare a → here a ≡ unit (drop a p)
+  unfolding writtenBy
+  bare-unit a b = rw (b .no-code, b .no-opening, b .no-closing)
+
+  pub turn-escape : (a : ℕ) → a < length p → Bare a → escapes (drop a p) ≡ true → from a ≡ escaped (getD p (a + 1) 0) ++ from (a + 2)
+  turn-escape a h b e =
+      let w : here a ≡ record { size = 2; bytes = escaped (getD p (a + 1) 0) } = bare-unit a b ∙ rw (e, getD-drop a p 1 0) refl in
+      turn a 1 h w refl
+
+  pub turn-byte : (a : ℕ) → a < length p → Bare a → escapes (drop a p) ≡ false → from a ≡ escaped (getD p a 0) ++ from (a + 1)
+  turn-byte a h b e =
+      let w : here a ≡ record { size = 1; bytes = escaped (getD p a 0) } = bare-unit a b ∙ rw (e, getD-drop a p 0 0, add-zero a) refl in
+      turn a 0 h w refl
+
+  -- n bytes of text
+  pub turn-bytes : (n a : ℕ) → a + n ≤ length p → ((i : ℕ) → a ≤ i → i < a + n → Bare i × (escapes (drop i p) ≡ false)) → from a ≡ flatMap escaped (take n (drop a p)) ++ from (a + n)
+  unfolding flatMap
+  turn-bytes zero a h f = rw (add-zero a) refl
+  turn-bytes (suc n) a h f =
+      let (b, e) = f a (omega arith) (omega arith) in
+      let ih = turn-bytes n (a + 1) (omega arith) (λ i j k. f i (omega arith) (omega arith)) in
+      let z : a + 1 + n ≡ a + suc n = omega arith in
+      let k = at-cons p a (omega arith) in
+      turn-byte a (omega arith) b e
+      ∙ ap (λ (v : List ℕ). escaped (getD p a 0) ++ v) ih
+      ∙ sym (append-assoc (escaped (getD p a 0)) (flatMap escaped (take n (drop (a + 1) p))) (from (a + 1 + n)))
+      ∙ rw (k, z) refl
+
+  -- ---- a row stands there; the next turn is at e
+  pub turn-code : (a e : ℕ) (r : List ℕ) → a < length p → firstRow (codeStarts (off + a)) rows ≡ some r → a < e → rowEnd r - rowStart r ≡ e - a
+      → from a ≡ codeSpan (bytesOf s (text r)) ++ from e
+  unfolding writtenBy
+  turn-code a e r h k l z =
+      let g : here a ≡ record { size = rowEnd r - rowStart r; bytes = codeSpan (bytesOf s (text r)) } = rw k refl in
+      let j : a + suc (e - a - 1) ≡ e = omega arith in
+      turn a (e - a - 1) h g (omega arith) ∙ ap (λ (i : ℕ). codeSpan (bytesOf s (text r)) ++ from i) j
+
+  pub turn-open : (a : ℕ) (r : List ℕ) → a < length p → firstRow (codeStarts (off + a)) rows ≡ none → firstRow (linkStarts (off + a)) rows ≡ some r
+      → from a ≡ linkOpen (bytesOf s (destination r)) (bytesOf s (title r)) ++ from (a + 1)
+  unfolding writtenBy
+  turn-open a r h n k =
+      let g : here a ≡ record { size = 1; bytes = linkOpen (bytesOf s (destination r)) (bytesOf s (title r)) } = rw (n, k) refl in
+      turn a 0 h g refl
+
+  pub turn-close : (a e : ℕ) (r : List ℕ) → a < length p → firstRow (codeStarts (off + a)) rows ≡ none → firstRow (linkStarts (off + a)) rows ≡ none
+      → firstRow (linkCloses (off + a)) rows ≡ some r → a < e → rowEnd r - textEnd r ≡ e - a → from a ≡ linkClose ++ from e
+  unfolding writtenBy
+  turn-close a e r h n o k l z =
+      let g : here a ≡ record { size = rowEnd r - textEnd r; bytes = linkClose } = rw (n, o, k) refl in
+      let j : a + suc (e - a - 1) ≡ e = omega arith in
+      turn a (e - a - 1) h g (omega arith) ∙ ap (λ (i : ℕ). linkClose ++ from i) j

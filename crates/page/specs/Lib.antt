@@ -1,0 +1,5 @@
+pub mod Page
+pub mod Reading
+pub mod Claims
+pub mod Cursor
+pub mod Samples

@@ -1,0 +1,90 @@
+-- The page of a note, from its bytes, its paragraphs and its span rows alone: over the bytes of each paragraph, by the row that stands there.
+use Prim.Native.Nat.{ℕ, zero, suc, _+_, _-_}
+use mathlib.Core.Option.{Option, none, some}
+use mathlib.Core.List.{List, [], _∷_, _++_, flatMap}
+use mathlib.Core.Bool.{Bool, true, false, not, _&&_}
+use lib.ListN.{getD}
+use lib.Dec.{eqb}
+use Rattle.block.specs.Block.{Placed}
+use Rattle.row.specs.declared.Range.{Range}
+use Rattle.row.specs.Row.{range}
+use Rattle.row.specs.First.{bytesOf}
+use Rattle.definition.specs.Reading.{paragraphs}
+use Rattle.inline.specs.Rows.{rowEnd}
+use Rattle.note.specs.Reading.{spanRows}
+use Rattle.html.specs.Page.{escaped, linkClose, paragraphOpen, paragraphClose}
+use Rattle.html.specs.Reading.{backslash, codeSpan, linkOpen}
+
+-- ---- the numbers of a row
+abbrev pub isCode : List ℕ → Bool
+isCode r = eqb (getD r 0 0) 1
+
+abbrev pub rowStart : List ℕ → ℕ
+rowStart r = getD r 1 0
+
+abbrev pub textEnd : List ℕ → ℕ
+textEnd r = getD r 4 0
+
+abbrev pub text : List ℕ → Range
+text r = range (getD r 3 0) (textEnd r)
+
+abbrev pub destination : List ℕ → Range
+destination r = range (getD r 6 0) (getD r 7 0)
+
+abbrev pub title : List ℕ → Range
+title r = range (getD r 8 0) (getD r 9 0)
+
+-- ---- the row that stands at a place of the note; two cursors find it in one pass over the note, see Cursor
+unfoldable pub firstRow : (List ℕ → Bool) → List (List ℕ) → Option (List ℕ)
+firstRow test [] = none
+firstRow test (r ∷ rows) = elim (test r) [ true ↦ some r | false ↦ firstRow test rows ]
+
+-- a code span starts there, a link starts there, a link's text ends there
+abbrev pub codeStarts : ℕ → List ℕ → Bool
+codeStarts at r = isCode r && eqb (rowStart r) at
+
+abbrev pub linkStarts : ℕ → List ℕ → Bool
+linkStarts at r = not (isCode r) && eqb (rowStart r) at
+
+abbrev pub linkCloses : ℕ → List ℕ → Bool
+linkCloses at r = not (isCode r) && eqb (textEnd r) at
+
+-- ---- what is written at a place
+-- how many bytes of the note it stands for, and what is written for them
+pub record Written : Type 0 where
+  pub size : ℕ
+  pub bytes : List ℕ
+
+abbrev written : ℕ → List ℕ → Written
+written n w = record { size = n; bytes = w }
+
+-- an escape or a byte, at the front of what is left of the paragraph
+abbrev pub unit : List ℕ → Written
+unit l = written (backslash l + 1) (escaped (getD l (backslash l) 0))
+
+-- by the code span that starts there, the link that starts there, the link whose text ends there
+unfoldable pub writtenBy : List ℕ → Option (List ℕ) → Option (List ℕ) → Option (List ℕ) → List ℕ → Written
+writtenBy s (some r) o c l = written (rowEnd r - rowStart r) (codeSpan (bytesOf s (text r)))
+writtenBy s none (some r) c l = written 1 (linkOpen (bytesOf s (destination r)) (bytesOf s (title r)))
+writtenBy s none none (some r) l = written (rowEnd r - textEnd r) linkClose
+writtenBy s none none none l = unit l
+
+module _ (s : List ℕ) (rows : List (List ℕ)) where
+  abbrev pub writtenAt : List ℕ → ℕ → Written
+  writtenAt l at = writtenBy s (firstRow (codeStarts at) rows) (firstRow (linkStarts at) rows) (firstRow (linkCloses at) rows) l
+
+  -- what is left of a paragraph, from place `at` of the note on, after the next k bytes
+  unfoldable pub contentFrom : ℕ → List ℕ → ℕ → List ℕ
+  contentFrom k [] at = []
+  contentFrom zero (b ∷ l) at = let x = writtenAt (b ∷ l) at in x .bytes ++ contentFrom (x .size - 1) l (at + 1)
+  contentFrom (suc k) (b ∷ l) at = contentFrom k l (at + 1)
+
+  unfoldable pub paragraphPage : Placed → List ℕ
+  paragraphPage q = paragraphOpen ++ contentFrom 0 (q .bytes) (q .at) ++ paragraphClose
+
+-- the page that these rows and paragraphs of the note s call for
+unfoldable pub pageBy : List ℕ → List Placed → List (List ℕ) → List ℕ
+pageBy s ps rows = flatMap (paragraphPage s rows) ps
+
+unfoldable pub pageOf : List ℕ → List ℕ
+pageOf s = pageBy s (paragraphs s) (spanRows s)

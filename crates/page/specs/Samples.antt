@@ -1,0 +1,89 @@
+-- Pages by computation: the whole example of document 01, the notes of its bench, and examples of the sources.
+use Prim.Native.Nat.{ℕ}
+use Prim.Native.String.{String}
+use mathlib.Core.Path.{_≡_, refl}
+use mathlib.Core.List.{List, [], _∷_, map, flatMap}
+use Rattle.scan.specs.Ascii.{ascii}
+use Rattle.scan.specs.Scan.{scan as scanBytes, run, past}
+use Rattle.scan.specs.Leap.{leap}
+use Rattle.scan.specs.Closing.{closingStep, closing}
+use Rattle.text.specs.Reading.{onesFrom, leadingOnes, sequenceLength, characters}
+use Rattle.label.specs.Reading.{inky, fitsAfter, fits, labelEnd, unclosed, isLabel}
+use Rattle.target.specs.Reading.{spaceFrom, depthAfter, rawStep, rawRun, judged, destinationOf, closer, titleOf}
+use Rattle.matching.specs.Form.{fold}
+use Rattle.matching.specs.Reading.{spaced, formOf, compared, equals, matches}
+use Rattle.marking.specs.Scan.{spans, finish, scan, scanStep, scanFound, scanStart}
+use Rattle.block.specs.Reading.{blankLine, lineLength, blockRest, blockLength, partLength, blockHere, blocks}
+use Rattle.row.specs.Reading.{matchFrom}
+use Rattle.definition.specs.Reading as definition
+use Rattle.inline.specs.CodeSpan.{countAfter, runStep, runDone, closingRun}
+use Rattle.inline.specs.Start.{pieceFrom}
+use Rattle.inline.specs.Inline.{closedAt, afterDestination, inlineOf}
+use Rattle.inline.specs.References.{labelAfter, textTail, tailOf}
+use Rattle.note.specs.Reading.{labels, rowsIn, spanRows}
+use Rattle.html.specs.Page.{escaped, stays, hexDigit, hrefByte}
+use Rattle.html.specs.Reading.{undone, margin, titleAttribute, linkOpen}
+use Rattle.page.specs.Reading.{firstRow, writtenBy, contentFrom, paragraphPage, pageBy, pageOf}
+
+pub record Sample : Type 0 where
+  pub note : List ℕ
+  pub page : List ℕ
+
+infix 5 _⇒_
+abbrev _⇒_ : String → String → Sample
+s ⇒ w = record { note = ascii s; page = ascii w }
+
+abbrev pub samples : List Sample
+samples =
+    -- "Whole example, 34 bytes"
+    ("[max]: /q2/max \"June\"\n\nUse [max].\n" ⇒ "<p>Use <a href=\"/q2/max\" title=\"June\">max</a>.</p>\n")
+    -- no note, no paragraph; two paragraphs, one in the definitions' block
+    ∷ ("" ⇒ "")
+    ∷ ("\n\n" ⇒ "")
+    ∷ ("[foo]: /url\n" ⇒ "")
+    ∷ ("a\n\nb\nc\n" ⇒ "<p>a</p>\n<p>b\nc</p>\n")
+    ∷ ("[foo]: /url\n\"title\" ok" ⇒ "<p>&quot;title&quot; ok</p>\n")
+    -- text, escapes, entities that are none
+    ∷ ("a < b & \"c\"" ⇒ "<p>a &lt; b &amp; &quot;c&quot;</p>\n")
+    ∷ ("\\*a\\* \\\\ \\b \\[c\\]" ⇒ "<p>*a* \\ \\b [c]</p>\n")
+    -- inline links
+    ∷ ("[link]()" ⇒ "<p><a href=\"\">link</a></p>\n")
+    ∷ ("[a](<b)c>)" ⇒ "<p><a href=\"b)c\">a</a></p>\n")
+    ∷ ("[link](foo\\)\\:)" ⇒ "<p><a href=\"foo):\">link</a></p>\n")
+    ∷ ("[link](/my uri)" ⇒ "<p>[link](/my uri)</p>\n")
+    ∷ ("[link](/uri \"title\")" ⇒ "<p><a href=\"/uri\" title=\"title\">link</a></p>\n")
+    ∷ ("[link](/url \"\")" ⇒ "<p><a href=\"/url\">link</a></p>\n")
+    ∷ ("[link](/url 'title \"and\" title')" ⇒ "<p><a href=\"/url\" title=\"title &quot;and&quot; title\">link</a></p>\n")
+    ∷ ("[](/uri)b" ⇒ "<p><a href=\"/uri\"></a>b</p>\n")
+    ∷ ("[link [foo [bar]]](/uri)" ⇒ "<p><a href=\"/uri\">link [foo [bar]]</a></p>\n")
+    ∷ ("[link] bar](/uri)" ⇒ "<p>[link] bar](/uri)</p>\n")
+    ∷ ("[foo [bar](/uri)](/uri)" ⇒ "<p>[foo <a href=\"/uri\">bar</a>](/uri)</p>\n")
+    ∷ ("[a](/u)[b](/v)" ⇒ "<p><a href=\"/u\">a</a><a href=\"/v\">b</a></p>\n")
+    -- code spans
+    ∷ ("`` foo ` bar ``" ⇒ "<p><code>foo ` bar</code></p>\n")
+    ∷ ("`foo\\`bar`" ⇒ "<p><code>foo\\</code>bar`</p>\n")
+    ∷ ("```foo``" ⇒ "<p>```foo``</p>\n")
+    ∷ ("`a\nb` `<`" ⇒ "<p><code>a b</code> <code>&lt;</code></p>\n")
+    ∷ ("[foo`](/uri)`" ⇒ "<p>[foo<code>](/uri)</code></p>\n")
+    ∷ ("[a `b` c](/u)" ⇒ "<p><a href=\"/u\">a <code>b</code> c</a></p>\n")
+    -- references
+    ∷ ("[foo][ref\\[]\n\n[ref\\[]: /uri" ⇒ "<p><a href=\"/uri\">foo</a></p>\n")
+    ∷ ("[foo [bar](/uri)][ref]\n\n[ref]: /uri" ⇒ "<p>[foo <a href=\"/uri\">bar</a>]<a href=\"/uri\">ref</a></p>\n")
+    ∷ ("[foo][bar][baz]\n\n[baz]: /url1\n[bar]: /url2" ⇒ "<p><a href=\"/url2\">foo</a><a href=\"/url1\">baz</a></p>\n")
+    ∷ ("[foo][bar][baz]\n\n[baz]: /url" ⇒ "<p>[foo]<a href=\"/url\">bar</a></p>\n")
+    ∷ ("[Foo][]\n\n[foo]: /url \"title\"" ⇒ "<p><a href=\"/url\" title=\"title\">Foo</a></p>\n")
+    ∷ ("[foo][ ]\n\n[foo]: /url" ⇒ "<p><a href=\"/url\">foo</a>[ ]</p>\n")
+    ∷ []
+
+abbrev pub readOne : Sample → Sample
+readOne x = record { note = x .note; page = pageOf (x .note) }
+
+pub samples-hold : map readOne samples ≡ samples
+unfolding scanBytes run past leap closingStep closing onesFrom leadingOnes sequenceLength characters inky fitsAfter fits labelEnd unclosed isLabel
+    spaceFrom depthAfter rawStep rawRun judged destinationOf closer titleOf fold spaced formOf compared equals matches
+    spans finish scan scanStep scanFound scanStart blankLine lineLength blockRest blockLength partLength blockHere blocks matchFrom
+    definition.lineAfter definition.titleAfter definition.endingAfter definition.afterLabel definition.afterIndent definition.definitionAt definition.takingFrom definition.definitionsFrom
+    definition.paragraphEnd definition.paragraphFrom definition.definitionsOf definition.paragraphOf definition.definitionsIn definition.paragraphsIn definition.definitions definition.paragraphs
+    countAfter runStep runDone closingRun pieceFrom closedAt afterDestination inlineOf labelAfter textTail tailOf labels rowsIn spanRows
+    flatMap escaped stays hexDigit hrefByte undone margin titleAttribute linkOpen firstRow writtenBy contentFrom paragraphPage pageBy pageOf
+samples-hold = refl
