@@ -85,23 +85,12 @@ fn after_label(s: &[u8], start: usize, end: usize) -> Entry
     match target::destination(s, target::space_end(s, end + 2)) {
         Part::Span(from, to, n) => match ending_after(s, n) {
             Part::Span(first, last, next) => {
-                let label = Range { start, end };
-                let destination = Range {
-                    start: from,
-                    end: to,
-                };
-                let title = Range {
-                    start: first,
-                    end: last,
-                };
-                Entry::Defined(
-                    Definition {
-                        label,
-                        destination,
-                        title,
-                    },
-                    next,
-                )
+                let d = Definition::new(
+                    Range::new(start, end),
+                    Range::new(from, to),
+                    Range::new(first, last),
+                );
+                Entry::Defined(d, next)
             }
             Part::Nothing => Entry::Nothing,
         },

@@ -9,8 +9,11 @@ use lib.ListN.{length, getD, drop, List·getD-eq-default}
 use Rattle.target.specs.Reading.{destinationOf}
 use Rattle.target.specs.declared.Part.{Part}
 use Rattle.target.specs.declared.Part.the-variants as part
+use Rattle.row.specs.declared.Range.{Range}
+use Rattle.row.specs.declared.Definition.{Definition}
+use Rattle.row.specs.Row.{range, definition}
 use Rattle.definition.specs.declared.Entry.the-variants.{Defined, Nothing}
-use Rattle.definition.specs.Reading.{spaceAfter, endingAfter, row, afterLabel}
+use Rattle.definition.specs.Reading.{spaceAfter, endingAfter, afterLabel}
 use Rattle.definition.proofs.after_label.Statement.{statement}
 use Rattle.definition.proofs.after_label.Tie as tie
 
@@ -34,11 +37,13 @@ module _ (s : List ℕ) (l e : ℕ) where
         unfolding afterLabel
         no-ending h = simp (← is-next, eq-eqb b 58 colon, ← is-space, ← is-destination, destination, ← is-ending, h)
 
-        whole : {u v next : ℕ} → t ≡ part.Span u v next → Defined (row l e a z u v) next ≡ afterLabel s l e
+        whole : {u v next : ℕ} {x y w : Range} {r : Definition} → t ≡ part.Span u v next → x ≡ range l e → y ≡ range a z → w ≡ range u v → r ≡ definition x y w
+            → Defined r next ≡ afterLabel s l e
         unfolding afterLabel
-        whole h = simp (← is-next, eq-eqb b 58 colon, ← is-space, ← is-destination, destination, ← is-ending, h)
+        whole h ex ey ew er =
+            simp (er, ex, ey, ew, ← is-next, eq-eqb b 58 colon, ← is-space, ← is-destination, destination, ← is-ending, h)
 
-ruleset ways = (outside, no-colon, no-destination, no-ending, whole, needs)
+ruleset ways = (outside, no-colon, no-destination, no-ending, needs)
 
 returns : tie.Need-returns
 returns c = search ways
@@ -70,6 +75,18 @@ ending-after-requires c κs = search ways
 enum-known-first : tie.Need-enum-known-first
 enum-known-first c = search ways
 
+new-requires : tie.Need-new-requires
+new-requires c κs = search ways
+
+new-requires-2 : tie.Need-new-requires-2
+new-requires-2 c κs = search ways
+
+new-requires-3 : tie.Need-new-requires-3
+new-requires-3 c κs = search ways
+
+new-requires-4 : tie.Need-new-requires-4
+new-requires-4 c κs = search ways
+
 enum-told : tie.Need-enum-told
 enum-told c = search ways
 
@@ -78,11 +95,12 @@ enum-told-2 c = search ways
 
 returns-3 : tie.Need-returns-3
 returns-3 c =
-    let k = c .before .before .before in
-    let d = k .before .before .before .before in
+    let k = c .before .before .before .before .before in
+    let d = k .before .before .before .before .before .before in
     let p = d .before .before in
     whole (p .before .before .before .before .args .s .now) _ _ (p .before .peek .ensures) (p .if2 .left) (d .before .space-end .ensures) (d .destination .ensures)
-    (k .before .before .from .given .1) (k .ending-after .ensures) (c .before .first .given .1)
+    (k .before .before .before .before .from .given .1) (k .before .before .ending-after .ensures) (k .first .given .1) (c .before .before .before .new .ensures)
+    (c .before .before .new2 .ensures) (c .before .new3 .ensures) (c .new4 .ensures)
 
 returns-4 : tie.Need-returns-4
 returns-4 c = search ways
@@ -104,6 +122,10 @@ after-label-spec =
     enum-known-from
     ending-after-requires
     enum-known-first
+    new-requires
+    new-requires-2
+    new-requires-3
+    new-requires-4
     enum-told
     enum-told-2
     returns-3
