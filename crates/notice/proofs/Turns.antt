@@ -27,7 +27,8 @@ use Rattle.paragraph.specs.declared.Marked.{Marked}
 use Rattle.paragraph.specs.declared.Marked.the-variants.{Deep, Spans}
 use Rattle.paragraph.specs.Tail.{labelsIn}
 use Rattle.paragraph.specs.Rows.{rowsFor}
-use Rattle.paragraph.specs.Walk.{depthLimit, Lies, Reads}
+use Rattle.note.specs.Note.{depthLimit}
+use Rattle.paragraph.specs.Walk.{Lies, Reads}
 use Rattle.notice.specs.Spans.{Defined, markedBy, NoteMarked}
 use Rattle.notice.proofs.Few.{few-definitions}
 use Rattle.notice.proofs.Filling.{store-all, filled-numbers, numbers-for}

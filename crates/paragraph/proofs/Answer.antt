@@ -6,6 +6,7 @@ use mathlib.Core.Logic.{_↔_}
 use mathlib.Core.Option.{Option, none, some}
 use mathlib.Core.List.{List, [], _∷_, _++_, map, append-nil, append-assoc}
 use lib.ListN.{length, length-append, length-map}
+use Rattle.note.specs.Note.{depthLimit}
 use Rattle.marking.specs.Marking.{Marking, Meets}
 use Rattle.marking.specs.Open.{FirstOver}
 use Rattle.marking.specs.Spans as marked
@@ -21,7 +22,7 @@ use Rattle.inline.specs.Rows.{spanRow, spanRows}
 use Rattle.inline.proofs.Demand3.{first-bracket-too-many, never-too-many}
 use Rattle.inline.proofs.SpanRows.{rows-are-read}
 use Rattle.paragraph.specs.Rows.{rowFor, rowsFor, storedAll}
-use Rattle.paragraph.specs.Walk.{depthLimit, markedBy, Reads}
+use Rattle.paragraph.specs.Walk.{markedBy, Reads}
 use Rattle.paragraph.specs.Claims.{SpansRead}
 use Rattle.paragraph.specs.declared.Marked.{Marked}
 use Rattle.paragraph.specs.declared.Marked.the-variants.{Deep, Spans}

@@ -8,6 +8,7 @@ use mathlib.Core.Option.{Option, none, some}
 use mathlib.Core.List.{List, [], _∷_, _++_, map, map-append, reverse, tail}
 use lib.Dec.{ltb}
 use lib.ListN.{length, getD, take, length-append, length-map}
+use Rattle.note.specs.Note.{depthLimit}
 use Rattle.scan.specs.Test.{by}
 use Rattle.marking.specs.Marking.{Role, nothing, opening, closing, trailing, role, Piece}
 use Rattle.marking.specs.Spans as marked
@@ -22,7 +23,7 @@ use Rattle.inline.specs.Tails.{Tail}
 use Rattle.inline.specs.Start.{pieceFrom}
 use Rattle.inline.specs.Grammar.{grammar}
 use Rattle.paragraph.specs.Rows.{rowFor, storedAll}
-use Rattle.paragraph.specs.Walk.{depthLimit, spansAt, Steps, Reads}
+use Rattle.paragraph.specs.Walk.{spansAt, Steps, Reads}
 use Rattle.paragraph.specs.declared.Walk.{Walk}
 use Rattle.paragraph.specs.declared.Marked.the-variants.{Spans}
 

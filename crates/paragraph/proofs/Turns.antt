@@ -11,6 +11,7 @@ use borrow.Author.Tests.{eq-eqb, ne-eqb, eqb-true, lt-leb, le-leb, ltb-true, ltb
 use lib.Dec.{eqb, ltb}
 use lib.ListN.{length, getD, take, drop, set, length-set, length-take, length-drop, length-reverse}
 use lib.Seq.{take-suc, take-suc-set, getD-set-same, getD-set-other}
+use Rattle.note.specs.Note.{depthLimit}
 use Rattle.scan.specs.Test.{by, and-left, and-right}
 use Rattle.scan.specs.Byte.{escapes}
 use Rattle.scan.specs.Scan.{run}
@@ -29,7 +30,7 @@ use Rattle.inline.specs.CodeSpan.{closingRun}
 use Rattle.inline.specs.Start.{piece, spanOrText, pieceFrom, from-escape, from-backticks, from-byte}
 use Rattle.inline.specs.Grammar.{grammar}
 use Rattle.paragraph.specs.Walk as walk
-use Rattle.paragraph.specs.Walk.{depthLimit, Steps, Reads, markedBy, Pair, Bounds, Lies}
+use Rattle.paragraph.specs.Walk.{Steps, Reads, markedBy, Pair, Bounds, Lies}
 use Rattle.paragraph.specs.declared.Walk.{Walk}
 use Rattle.paragraph.specs.declared.Marked.the-variants.{Deep}
 use Rattle.paragraph.proofs.Pieces.{at-open, at-close}

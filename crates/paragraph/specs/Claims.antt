@@ -3,6 +3,7 @@ use Prim.Native.Nat.{ℕ, _+_}
 use mathlib.Core.Path.{_≡_}
 use mathlib.Core.List.{List, map}
 use lib.ListN.{length}
+use Rattle.note.specs.Note.{depthLimit}
 use Rattle.marking.specs.Marking.{Marking}
 use Rattle.marking.specs.Open.{NeverOver}
 use Rattle.row.specs.declared.Definition.{Definition}
@@ -10,7 +11,6 @@ use Rattle.span.specs.Row.{numbers}
 use Rattle.inline.specs.Tails.{Tail}
 use Rattle.inline.specs.Rows.{RowsAre}
 use Rattle.paragraph.specs.Rows.{rowsFor, storedAll}
-use Rattle.paragraph.specs.Walk.{depthLimit}
 
 -- n is the row after the last span's, and u the table t with the rows of m's links and code spans from row k on
 pub record SpansRead (offset : ℕ) (p : List ℕ) (labels : List (List ℕ)) (ds : List Definition) (m : Marking Tail) (k : ℕ) (t : List ℕ) (n : ℕ) (u : List ℕ) : Type 0 where

@@ -4,6 +4,7 @@ use mathlib.Core.Path.{_≡_}
 use mathlib.Core.Option.{Option, none, some}
 use mathlib.Core.List.{List, [], _∷_, map}
 use lib.ListN.{length, getD}
+use Rattle.note.specs.Note.{depthLimit}
 use Rattle.marking.specs.Spans as marked
 use Rattle.marking.specs.Reading.{Found, alone, foundClosing, pieceAt, placeAfter, lastAfter, newSpans}
 use Rattle.marking.specs.Scan.{spans, over}
@@ -40,10 +41,6 @@ pub record Lies (note : List ℕ) (start end count k : ℕ) : Type 0 where
   pub places : length note < 2 ^ 32
   pub definitions : count < 2 ^ 32
   pub rows : k + length note < 2 ^ 64
-
--- "over 64 brackets open at once"
-abbrev pub depthLimit : ℕ
-depthLimit = 64
 
 module _ (offset : ℕ) (p : List ℕ) (labels : List (List ℕ)) (ds : List Definition) where
   -- the spans that end with the piece at place `at`, by what it comes to
