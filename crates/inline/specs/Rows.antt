@@ -11,14 +11,11 @@ use Rattle.marking.specs.Scan.{spans}
 use Rattle.row.specs.declared.Range.{Range}
 use Rattle.row.specs.declared.Definition.{Definition}
 use Rattle.row.specs.Row.{range, absent}
+use Rattle.span.specs.Row.{width}
 use Rattle.inline.specs.Pieces.{backtick}
 use Rattle.inline.specs.Tails.{Tail, inline, full, collapsed, shortcut, lengthOf}
 use Rattle.inline.specs.Paragraph.{rules}
 use Rattle.inline.specs.Grammar.{grammar}
-
--- "ten 32-bit numbers a row"
-abbrev pub width : ℕ
-width = 10
 
 -- "1 code span, 2 inline, 3 full, 4 collapsed, 5 shortcut"
 abbrev pub kindNumber : Span Tail → ℕ

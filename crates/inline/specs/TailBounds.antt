@@ -110,7 +110,7 @@ module _ (s : List ℕ) where
       (λ k. peek-inside s 1 (λ z. let c = eqb-true (getD s 1 0) 93 (and-right (eqb (getD s 0 0) 91) _ k) in omega arith))))
       (λ e. rw (e, textTail) tt)
 
-  label-inside : (e : ℕ) → labelAfter s ≡ At e → (1 ≤ e) × (e < length s)
+  pub label-inside : (e : ℕ) → labelAfter s ≡ At e → (1 ≤ e) × (e < length s)
   unfolding labelAfter
   label-inside e q = by (eqb (getD s 0 0) 91) (λ k. labelEnd-inside s 1 e (rw (k, labelAfter) at q)) (λ k. absurd (never (rw (k, labelAfter) at q)))
 

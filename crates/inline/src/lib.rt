@@ -3,7 +3,7 @@ ghost use mathlib.Core.Path.{_≡_};
 ghost use Prim.Native.Nat.{_+_, _<_, _^_};
 ghost use lib.ListN.{drop};
 ghost use Rattle.scan.specs.Scan.{past};
-ghost use Rattle.inline.specs.Pieces.{backtick};
+ghost use Rattle.inline.specs.Pieces.{backtick, quiet};
 ghost use Rattle.inline.specs.CodeSpan.{countAfter, closingRun};
 ghost use Rattle.inline.specs.Inline.{closedAt, afterDestination, inlineOf};
 ghost use Rattle.inline.specs.References.{labelAfter, emptyAfter};
@@ -31,6 +31,21 @@ pub fn backticks_end(s: &[u8], at: usize) -> usize
     let mut i = at;
     while i < s.len() {
         if s[i] != 96 {
+            return i;
+        }
+        i += 1;
+    }
+    i
+}
+
+// The first place from `at` on where a bracket, a backtick or a backslash stands; the end is one.
+pub fn plain_end(s: &[u8], at: usize) -> usize
+    ensures { λ r. ⌜ r ≡ past quiet (now (s .entry)) at ⌝ }
+{
+    let mut i = at;
+    while i < s.len() {
+        let b = s[i];
+        if (b == 96) | (b == 91) | (b == 93) | (b == 92) {
             return i;
         }
         i += 1;

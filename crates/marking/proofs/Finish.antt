@@ -1,13 +1,15 @@
 -- What a loop over the scan's state needs: from every state the scan comes to the same end as from the next one.
 use mathlib.Core.Path.{_≡_, refl, sym, _∙_}
-use mathlib.Core.Bool.{Bool, true, false}
-use mathlib.Core.Option.{none, some}
+use mathlib.Core.Bool.{Bool, true, false, cond}
+use mathlib.Core.Option.{Option, none, some}
+use mathlib.Core.List.{List, [], _∷_}
 use Prim.Native.Nat.{ℕ, zero, suc, _+_, _≤_, _<_}
 use native.Mathlib.Omega.{arith}
 use lib.Dec.{ltb}
 use borrow.Author.Tests.{ltb-true, ltb-false, lt-ltb, le-ltb}
+use Rattle.marking.specs.Marking.{Role, nothing, opening, closing, trailing, role}
 use Rattle.marking.specs.Grammar.{Grammar}
-use Rattle.marking.specs.Reading.{Found, alone, paired, linked, pieceAt, placeAfter}
+use Rattle.marking.specs.Reading.{Found, alone, paired, linked, withTail, foundClosing, foundBy, pieceAt, placeAfter}
 use Rattle.marking.specs.Scan.{Scan, scanFound, scanStep, scan, finish, overAt, overWithin, overs}
 
 module _ {T : Type 0} (g : Grammar T) where
@@ -28,6 +30,33 @@ module _ {T : Type 0} (g : Grammar T) where
   pub scan-grows : (s : Scan T) → s .place < g .size → s .place < scanStep g s .place
   unfolding scanStep
   scan-grows s h = after-grows (s .place) (scanFound g s) h
+
+  -- a step ends within the paragraph, since each piece does, and each tail that the grammar gives
+  module _ (s : Scan T) (h : s .place < g .size) where
+    abbrev tailOf : ℕ → Option T
+    tailOf o = g .tailAt (g .endAt o) (s .place)
+
+    abbrev Ends : Found T → Type 0
+    Ends f = placeAfter g (pieceAt g (s .place)) f ≤ g .size
+
+    closing-ends : role (g .kindAt (s .place)) ≡ closing → (st : List ℕ) → Ends (foundClosing tailOf (s .last-link) st)
+    closing-ends r [] = g .within (s .place) h
+    closing-ends r (i ∷ st) = pair-ends (ltb i (s .last-link)) (tailOf i) refl
+      where
+        pair-ends : (b : Bool) (x : Option T) → tailOf i ≡ x → Ends (cond b (paired i) (withTail i x))
+        pair-ends true x e = g .within (s .place) h
+        pair-ends false none e = g .within (s .place) h
+        pair-ends false (some t) e = g .tail-within (g .endAt i) (s .place) t h r e
+
+    role-ends : (x : Role) → role (g .kindAt (s .place)) ≡ x → Ends (foundBy tailOf (s .last-link) (s .stack) x)
+    role-ends nothing r = g .within (s .place) h
+    role-ends opening r = g .within (s .place) h
+    role-ends closing r = closing-ends r (s .stack)
+    role-ends trailing r = g .within (s .place) h
+
+    pub scan-within : scanStep g s .place ≤ g .size
+    unfolding scanStep scanFound
+    scan-within = role-ends (role (g .kindAt (s .place))) refl
 
   pub scan-more : (n : ℕ) (s : Scan T) → g .size ≤ s .place + n → scan (suc n) g s ≡ scan n g s
   scan-more zero s h = scan-end 1 s (omega arith) ∙ sym (scan-end 0 s (omega arith))

@@ -14,9 +14,10 @@ use Rattle.row.specs.declared.Range.{Range}
 use Rattle.row.specs.declared.Definition.{Definition}
 use Rattle.row.specs.Row.{range}
 use Rattle.row.specs.First.{bytesOf, labelsOf, FirstEqual}
+use Rattle.span.specs.Row.{width}
 use Rattle.definition.specs.Reading.{definitions}
 use Rattle.inline.specs.Paragraph.{rules}
-use Rattle.inline.specs.Rows.{width, rowEnd}
+use Rattle.inline.specs.Rows.{rowEnd}
 use Rattle.note.specs.Note.{Marked, SpanRowsAre, EachRowOnce}
 use Rattle.note.specs.Reading.{labels, spanRows}
 

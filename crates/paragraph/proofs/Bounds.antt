@@ -32,8 +32,8 @@ use Rattle.paragraph.specs.Tail.{labelsIn, shown, Names}
 use Rattle.paragraph.specs.Rows.{linkRow}
 use Rattle.paragraph.specs.Walk.{Pair, Bounds}
 use Rattle.paragraph.specs.declared.Walk.{Walk}
-use Rattle.paragraph.specs.declared.Tail.{Tail as Tail′}
-use Rattle.paragraph.specs.declared.Tail.the-variants as tails
+use Rattle.paragraph.specs.declared.tail.Tail.{Tail as Tail′}
+use Rattle.paragraph.specs.declared.tail.Tail.the-variants as tails
 use Rattle.paragraph.proofs.LinkRows.{definition-in}
 use Rattle.paragraph.proofs.Pieces.{at-close}
 

@@ -6,4 +6,5 @@ pub mod Step
 pub mod CodeSteps
 pub mod Loop
 pub mod Turns
+pub mod Plain
 pub mod Answer

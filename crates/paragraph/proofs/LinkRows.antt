@@ -20,8 +20,8 @@ use Rattle.inline.specs.Rows.{Target, kindNumber, fromNote?, defined, targetOf}
 use Rattle.paragraph.specs.Tail.{shown, Names}
 use Rattle.paragraph.specs.Rows.{linkRow}
 use Rattle.inline.specs.declared.InlineParts.{InlineParts}
-use Rattle.paragraph.specs.declared.Tail.{Tail}
-use Rattle.paragraph.specs.declared.Tail.the-variants.{Inline}
+use Rattle.paragraph.specs.declared.tail.Tail.{Tail}
+use Rattle.paragraph.specs.declared.tail.Tail.the-variants.{Inline}
 
 -- ---- a part of a tail
 module _ (start at : ℕ) (r : Range) where

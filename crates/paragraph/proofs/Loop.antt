@@ -4,18 +4,17 @@ use native.Mathlib.Nat.{add-zero}
 use native.Mathlib.Omega.{arith}
 use mathlib.Core.Path.{_≡_, refl, sym, ap, _∙_}
 use mathlib.Core.Bool.{false}
-use mathlib.Core.Option.{Option, none, some}
-use mathlib.Core.List.{List, [], _∷_, _++_, map, map-append, reverse, tail}
-use lib.Dec.{ltb}
+use mathlib.Core.Option.{none}
+use mathlib.Core.List.{List, [], _∷_, _++_, map, map-append, reverse}
 use lib.ListN.{length, getD, take, length-append, length-map}
 use Rattle.note.specs.Note.{depthLimit}
 use Rattle.scan.specs.Test.{by}
-use Rattle.marking.specs.Marking.{Role, nothing, opening, closing, trailing, role, Piece}
+use Rattle.marking.specs.Marking.{role, Piece}
 use Rattle.marking.specs.Spans as marked
 use Rattle.marking.specs.Grammar.{Grammar}
-use Rattle.marking.specs.Reading.{Found, alone, paired, linked, withTail, isCode, foundClosing, foundBy, stackBy, pieceAt, placeAfter, lastAfter, newSpans}
+use Rattle.marking.specs.Reading.{Found, alone, paired, linked, isCode, stackBy, pieceAt, placeAfter, lastAfter, newSpans}
 use Rattle.marking.specs.Scan.{Scan, scanFound, scanStep, scanStart, finish, spans, overAt, overs, over}
-use Rattle.marking.proofs.Finish.{finish-step, finish-end, overs-step, overs-end, scan-grows}
+use Rattle.marking.proofs.Finish.{finish-step, finish-end, overs-step, overs-end, scan-grows, scan-within}
 use Rattle.row.specs.declared.Definition.{Definition}
 use Rattle.span.specs.declared.Span.{Span}
 use Rattle.span.specs.Row.{stored}
@@ -36,32 +35,10 @@ stored-more t k (x ∷ xs) ys =
     ap (λ (n : ℕ). storedAll (storedAll (stored t k x) (k + 1) xs) n ys) e ∙ stored-more (stored t k x) (k + 1) xs ys
 
 -- ---- a step of the scan
-module _ {T : Type 0} (g : Grammar T) where
-  few-spans : (f : ℕ → Piece) (q : Piece) (x : Found T) → length (newSpans f q x) ≤ 1
-  few-spans f q alone = by (isCode (q .kind)) (λ e. rw e (omega arith)) (λ e. rw e (omega arith))
-  few-spans f q (paired i) = omega arith
-  few-spans f q (linked i t) = omega arith
-
-  module _ (s : Scan T) (h : s .place < g .size) where
-    -- a tail that the grammar gives ends within the paragraph
-    tail-ends : (r : role (g .kindAt (s .place)) ≡ closing) (o i : ℕ) (x : Option T) → g .tailAt o (s .place) ≡ x → placeAfter g (pieceAt g (s .place)) (withTail i x) ≤ g .size
-    tail-ends r o i none e = g .within (s .place) h
-    tail-ends r o i (some t) e = g .tail-within o (s .place) t h r e
-
-    closing-ends : role (g .kindAt (s .place)) ≡ closing → (st : List ℕ) → placeAfter g (pieceAt g (s .place)) (foundClosing (λ o. g .tailAt (g .endAt o) (s .place)) (s .last-link) st) ≤ g .size
-    closing-ends r [] = g .within (s .place) h
-    closing-ends r (i ∷ st) =
-        by (ltb i (s .last-link)) (λ e. rw e (g .within (s .place) h)) (λ e. rw e (tail-ends r (g .endAt i) i (g .tailAt (g .endAt i) (s .place)) refl))
-
-    role-ends : (x : Role) → role (g .kindAt (s .place)) ≡ x → placeAfter g (pieceAt g (s .place)) (foundBy (λ o. g .tailAt (g .endAt o) (s .place)) (s .last-link) (s .stack) x) ≤ g .size
-    role-ends nothing r = g .within (s .place) h
-    role-ends opening r = g .within (s .place) h
-    role-ends closing r = closing-ends r (s .stack)
-    role-ends trailing r = g .within (s .place) h
-
-    pub scan-within : scanStep g s .place ≤ g .size
-    unfolding scanStep scanFound
-    scan-within = role-ends (role (g .kindAt (s .place))) refl
+few-spans : {T : Type 0} (f : ℕ → Piece) (q : Piece) (x : Found T) → length (newSpans f q x) ≤ 1
+few-spans f q alone = by (isCode (q .kind)) (λ e. rw e (omega arith)) (λ e. rw e (omega arith))
+few-spans f q (paired i) = omega arith
+few-spans f q (linked i t) = omega arith
 
 scan-eq : {T : Type 0} {a a′ : ℕ} {b b′ : List ℕ} {c c′ : ℕ} (xs : List (marked.Span T)) → a ≡ a′ → b ≡ b′ → c ≡ c′
     → _≡_ {A = Scan T} (record { place = a; stack = b; last-link = c; spans = xs }) (record { place = a′; stack = b′; last-link = c′; spans = xs })
@@ -159,7 +136,7 @@ module _ (offset : ℕ) (p : List ℕ) (labels : List (List ℕ)) (ds : List Def
               same-over = ap (overs depthLimit g) (sym next) ∙ sym (overs-step depthLimit g here h eo) ∙ o .same-over;
               row-is = omega (arith, s .row, o .row-is);
               table-is = table-more;
-              few = omega (arith, o .few, few-spans g (pieceAt g) (pieceAt g (w .at)) f, on-less);
+              few = omega (arith, o .few, few-spans (pieceAt g) (pieceAt g (w .at)) f, on-less);
               bounded = omega (arith, scan-within g here h, ap (λ (x : Scan Tail). x .place) next);
               waits = waits;
               fits = fits;

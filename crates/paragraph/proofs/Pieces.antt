@@ -3,7 +3,7 @@ use Prim.Native.Nat.{ℕ, _+_}
 use native.Mathlib.Nat.{add-zero}
 use native.Mathlib.Omega.{arith}
 use mathlib.Core.Path.{_≡_, refl, sym, ap, _∙_}
-use mathlib.Core.Bool.{Bool, true, false, cond}
+use mathlib.Core.Bool.{Bool, true, false, true≢false, cond}
 use mathlib.Core.List.{List}
 use borrow.Author.Tests.{ne-eqb}
 use lib.Dec.{eqb}
@@ -12,6 +12,7 @@ use lib.Seq.{getD-drop}
 use Rattle.scan.specs.Byte.{escapes}
 use Rattle.marking.specs.Marking.{opens, closes, plain}
 use Rattle.marking.specs.Reading.{isCode}
+use Rattle.inline.specs.Pieces.{quiet}
 use Rattle.inline.specs.Start.{piece, kindOf, pieceFrom, from-byte}
 
 module _ (p : List ℕ) (a : ℕ) where
@@ -27,6 +28,16 @@ module _ (p : List ℕ) (a : ℕ) where
 
   pub at-close : getD p a 0 ≡ 93 → pieceFrom p a ≡ piece closes a (a + 1)
   at-close e = at-byte 93 e (λ q. omega arith) (λ q. omega arith)
+
+  -- a byte that is plain text whatever follows
+  module _ (e : quiet (getD p a 0) ≡ true) where
+    pub quiet-other : (b : ℕ) → quiet b ≡ false → getD p a 0 ≡ b → ⊥
+    quiet-other b f q = true≢false (sym e ∙ ap quiet q ∙ f)
+
+    pub at-quiet : pieceFrom p a ≡ piece plain a (a + 1)
+    at-quiet =
+        from-byte p a (no-escape (quiet-other 92 refl)) (ne-eqb (getD p a 0) 96 (quiet-other 96 refl))
+        ∙ rw (ne-eqb (getD p a 0) 91 (quiet-other 91 refl), ne-eqb (getD p a 0) 93 (quiet-other 93 refl))
 
 pub byte-no-code : (b : ℕ) → isCode (kindOf b) ≡ false
 byte-no-code b = by-tests (eqb b 91) (eqb b 93)

@@ -1,19 +1,14 @@
 -- The tail of a pair by what the calls answer: each premise is a fact that the code has there.
-use Prim.Native.Nat.{ℕ, _+_, _-_, _≤_, _<_}
+use Prim.Native.Nat.{ℕ, _+_, _-_}
 use mathlib.Core.Path.{_≡_, sym, ap, _∙_}
 use mathlib.Core.Bool.{Bool, true, false}
 use mathlib.Core.Option.{none}
 use mathlib.Core.List.{List}
 use native.Mathlib.Omega.{arith}
-use borrow.Author.Tests.{ne-eqb, eq-eqb, eqb-true, eqb-false}
-use lib.Dec.{eqb}
-use lib.ListN.{length, getD, take, drop, length-drop}
+use lib.ListN.{length, take, drop, length-drop}
 use lib.Seq.{take-all}
 use Rattle.scan.specs.declared.Found.{Found}
-use Rattle.scan.specs.declared.Found.the-variants.{At, Nothing}
-use Rattle.label.specs.Reading.{labelEnd, isLabel}
-use Rattle.scan.specs.Test.{by}
-use Rattle.label.proofs.Label.{labelEnd-inside}
+use Rattle.label.specs.Reading.{isLabel}
 use Rattle.row.specs.Reading.{firstMatch, rowOf}
 use Rattle.inline.specs.Inline.{inlineOf}
 use Rattle.inline.specs.References.{labelAfter, emptyAfter, fullBy, shortBy, textTail, referenceBy, referenceOf, tailBy, tailOf}
@@ -27,15 +22,6 @@ rest p a = take (length p - a) (drop a p)
 
 pub rest-is : (p : List ℕ) (a : ℕ) → rest p a ≡ drop a p
 rest-is p a = take-all (length p - a) (drop a p) (rw length-drop (omega arith))
-
-module _ (s : List ℕ) where
-  no-label-after : (getD s 0 0 ≡ 91 → ⊥) → Nothing ≡ labelAfter s
-  unfolding labelAfter
-  no-label-after n = rw (labelAfter, ne-eqb (getD s 0 0) 91 n)
-
-  label-after : getD s 0 0 ≡ 91 → labelEnd (drop 1 s) 1 ≡ labelAfter s
-  unfolding labelAfter
-  label-after e = rw (labelAfter, eq-eqb (getD s 0 0) 91 e)
 
 module _ (note t : List ℕ) (count : ℕ) where
   pub full-by : (n : ℕ) (label : List ℕ) (f : Found) → rowOf note t label count ≡ f → fullBy n f ≡ fullBy n (firstMatch (labelsIn note t count) label)
@@ -60,11 +46,3 @@ module _ (note t : List ℕ) (count : ℕ) where
   unfolding tailOf
   tail-by p o c f e =
       let q = rw (rest-is p (c + 1)) at e in rw (rest-is p (c + 1)) (ap (tailBy (labelsIn note t count) (take (c - o) (drop o p)) (drop (c + 1) p) (c + 1)) (sym q))
-
-never : {e : ℕ} → Nothing ≡ At e → ⊥
-never q = let z : _≡_ {A = ℕ} 0 1 = cc in omega arith
-
-pub label-inside : (s : List ℕ) (e : ℕ) → labelAfter s ≡ At e → (1 ≤ e) × (e < length s)
-label-inside s e q =
-    by (eqb (getD s 0 0) 91) (λ k. labelEnd-inside s 1 e (label-after s (eqb-true _ _ k) ∙ q))
-    (λ k. absurd (never (no-label-after s (eqb-false _ _ k) ∙ q)))

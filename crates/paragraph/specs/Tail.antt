@@ -7,10 +7,10 @@ use Rattle.row.specs.Row.{wholeRows}
 use Rattle.row.specs.Reading.{definitionsFrom}
 use Rattle.inline.specs.Tails as told
 use Rattle.inline.specs.References.{movedParts}
-use Rattle.paragraph.specs.declared.Tail.{Tail}
-use Rattle.paragraph.specs.declared.Tail.the-variants.{Inline, Full, Collapsed, Shortcut}
-use Rattle.paragraph.specs.declared.Ending.{Ending}
-use Rattle.paragraph.specs.declared.Ending.the-variants as endings
+use Rattle.paragraph.specs.declared.tail.Tail.{Tail}
+use Rattle.paragraph.specs.declared.tail.Tail.the-variants.{Inline, Full, Collapsed, Shortcut}
+use Rattle.paragraph.specs.declared.tail.Ending.{Ending}
+use Rattle.paragraph.specs.declared.tail.Ending.the-variants as endings
 
 -- the labels of the first `count` rows of a definition table
 abbrev pub labelsIn : List ℕ → List ℕ → ℕ → List (List ℕ)

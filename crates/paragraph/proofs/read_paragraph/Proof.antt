@@ -1,5 +1,6 @@
 -- From where the code stands the scan comes to the same end as from its start, and the table holds the rows of the spans so far.
 use Rattle.paragraph.proofs.Turns.{piece-less, piece-on, open-on, deep-reads, close-pair, close-less, close-on, paired-test, unpaired-test, part-length, bounds-here}
+use Rattle.paragraph.proofs.Plain.{plain-after, plain-on}
 use Rattle.paragraph.proofs.Loop.{On, on-start, on-end}
 use Rattle.paragraph.specs.Tail.{labelsIn}
 use Rattle.row.specs.Reading.{definitionsFrom}
@@ -9,6 +10,7 @@ use Rattle.row.specs.First.{bytesOf}
 use Prim.Native.Nat.{_-_}
 use native.Mathlib.Omega.{arith}
 use mathlib.Core.Path.{_≡_, refl, _∙_}
+use borrow.Author.Needs.{needs}
 use Rattle.paragraph.proofs.read_paragraph.Statement.{statement}
 use Rattle.paragraph.proofs.read_paragraph.Tie as tie
 
@@ -79,11 +81,14 @@ loop-again-2 c = let e = paired-test _ _ (c .before .before .before .before .if4
 pass-piece-requires : tie.Need-pass-piece-requires Inv-loop μ-loop
 pass-piece-requires c κs = (c .before .before .before .before .if1 .taken, bounds-here (c .before .before .before .before .before .before .before .before .before .before .before .pre .0) (c .before .before .before .before .before .before .loop .inv .1) (c .before .before .before .before .if1 .taken) _ (omega arith))
 
+plain-end-requires : tie.Need-plain-end-requires Inv-loop μ-loop
+plain-end-requires c κs = search needs
+
 loop-less-3 : tie.Need-loop-less-3 Inv-loop μ-loop
-loop-less-3 c = omega (arith, c .before .before .before .before .before .before .before .if1 .taken, piece-less _ _ _ _ _ _ (c .before .before .before .before .before .before .before .before .before .loop .inv .1) (c .before .before .before .before .before .before .before .if1 .taken) (c .before .before .before .before .before .if2 .left) (unpaired-test _ _ (c .before .before .before .before .if4 .left)) (c .before .before .pass-piece .ensures _ _))
+loop-less-3 c = omega (arith, c .before .before .before .before .before .before .before .before .if1 .taken, piece-less _ _ _ _ _ _ (c .before .before .before .before .before .before .before .before .before .before .loop .inv .1) (c .before .before .before .before .before .before .before .before .if1 .taken) (c .before .before .before .before .before .before .if2 .left) (unpaired-test _ _ (c .before .before .before .before .before .if4 .left)) (c .before .before .before .pass-piece .ensures _ _), plain-after _ _ (c .plain-end .ensures))
 
 loop-again-3 : tie.Need-loop-again-3 Inv-loop μ-loop
-loop-again-3 c = (c .before .before .pass-piece .kept .1 .1 .0 ∙ c .before .before .before .before .before .before .before .before .before .loop .inv .0, piece-on _ _ _ _ _ _ (c .before .before .before .before .before .before .before .before .before .loop .inv .1) (c .before .before .before .before .before .before .before .if1 .taken) (c .before .before .before .before .before .if2 .left) (unpaired-test _ _ (c .before .before .before .before .if4 .left)) (c .before .before .pass-piece .ensures _ _))
+loop-again-3 c = (c .before .before .before .pass-piece .kept .1 .1 .0 ∙ c .before .before .before .before .before .before .before .before .before .before .loop .inv .0, plain-on _ _ _ _ _ _ (piece-on _ _ _ _ _ _ (c .before .before .before .before .before .before .before .before .before .before .loop .inv .1) (c .before .before .before .before .before .before .before .before .if1 .taken) (c .before .before .before .before .before .before .if2 .left) (unpaired-test _ _ (c .before .before .before .before .before .if4 .left)) (c .before .before .before .pass-piece .ensures _ _)) (c .plain-end .ensures))
 
 same-length-2 : tie.Need-same-length-2 Inv-loop μ-loop
 same-length-2 c = c .before .before .loop .inv .0
@@ -117,6 +122,7 @@ read-paragraph-spec =
     loop-less-2
     loop-again-2
     pass-piece-requires
+    plain-end-requires
     loop-less-3
     loop-again-3
     same-length-2

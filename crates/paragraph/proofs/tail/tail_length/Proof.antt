@@ -3,8 +3,8 @@ use Rattle.paragraph.specs.Tail.{shown}
 use Rattle.inline.specs.Tails.{lengthOf}
 use mathlib.Core.Path.{sym, ap}
 use borrow.Author.Needs.{needs}
-use Rattle.paragraph.proofs.tail_length.Statement.{statement}
-use Rattle.paragraph.proofs.tail_length.Tie as tie
+use Rattle.paragraph.proofs.tail.tail_length.Statement.{statement}
+use Rattle.paragraph.proofs.tail.tail_length.Tie as tie
 
 enum-known-t : tie.Need-enum-known-t
 enum-known-t c = search needs

@@ -4,8 +4,8 @@ use Prim.Native.Nat.{_+_}
 use native.Mathlib.Omega.{arith}
 use mathlib.Core.Path.{_∙_}
 use borrow.Author.Needs.{needs}
-use Rattle.paragraph.proofs.link_row.Statement.{statement}
-use Rattle.paragraph.proofs.link_row.Tie as tie
+use Rattle.paragraph.proofs.link.link_row.Statement.{statement}
+use Rattle.paragraph.proofs.link.link_row.Tie as tie
 
 add-new : tie.Need-add-new
 add-new c = let s = c .before .pre .1 in let w = s .whole in omega arith

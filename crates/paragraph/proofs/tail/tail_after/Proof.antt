@@ -3,8 +3,8 @@ use Prim.Native.Nat.{_+_}
 use Rattle.paragraph.proofs.Tails.{tail-by}
 use mathlib.Core.Path.{sym, _∙_}
 use borrow.Author.Needs.{needs}
-use Rattle.paragraph.proofs.tail_after.Statement.{statement}
-use Rattle.paragraph.proofs.tail_after.Tie as tie
+use Rattle.paragraph.proofs.tail.tail_after.Statement.{statement}
+use Rattle.paragraph.proofs.tail.tail_after.Tie as tie
 
 add-rest : tie.Need-add-rest
 add-rest c = search needs

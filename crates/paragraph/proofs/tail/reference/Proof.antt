@@ -1,10 +1,11 @@
 -- The label that follows decides; it lies within what follows.
-use Rattle.paragraph.proofs.Tails.{label-inside, reference-by}
+use Rattle.inline.specs.TailBounds.{label-inside}
+use Rattle.paragraph.proofs.Tails.{reference-by}
 use native.Mathlib.Omega.{arith}
 use mathlib.Core.Path.{sym, _∙_}
 use borrow.Author.Needs.{needs}
-use Rattle.paragraph.proofs.reference.Statement.{statement}
-use Rattle.paragraph.proofs.reference.Tie as tie
+use Rattle.paragraph.proofs.tail.reference.Statement.{statement}
+use Rattle.paragraph.proofs.tail.reference.Tie as tie
 
 label-after-requires : tie.Need-label-after-requires
 label-after-requires c κs = search needs

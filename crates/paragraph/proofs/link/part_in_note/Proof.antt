@@ -3,8 +3,8 @@ use Rattle.paragraph.proofs.LinkRows.{part-absent, part-there}
 use native.Mathlib.Omega.{arith}
 use mathlib.Core.Path.{_∙_}
 use borrow.Author.Needs.{needs}
-use Rattle.paragraph.proofs.part_in_note.Statement.{statement}
-use Rattle.paragraph.proofs.part_in_note.Tie as tie
+use Rattle.paragraph.proofs.link.part_in_note.Statement.{statement}
+use Rattle.paragraph.proofs.link.part_in_note.Tie as tie
 
 absent-requires : tie.Need-absent-requires
 absent-requires c κs = search needs

@@ -2,8 +2,8 @@
 use mathlib.Core.Path.{sym, _∙_}
 use Rattle.paragraph.proofs.Tails.{full-by}
 use borrow.Author.Needs.{needs}
-use Rattle.paragraph.proofs.full_reference.Statement.{statement}
-use Rattle.paragraph.proofs.full_reference.Tie as tie
+use Rattle.paragraph.proofs.tail.full_reference.Statement.{statement}
+use Rattle.paragraph.proofs.tail.full_reference.Tie as tie
 
 lookup-requires : tie.Need-lookup-requires
 lookup-requires c κs = search needs

@@ -4,8 +4,8 @@ use borrow.Author.Tests.{not-true, not-false}
 use mathlib.Core.Bool.{true, false}
 use mathlib.Core.Path.{refl, sym, _∙_}
 use borrow.Author.Needs.{needs}
-use Rattle.paragraph.proofs.text_reference.Statement.{statement}
-use Rattle.paragraph.proofs.text_reference.Tie as tie
+use Rattle.paragraph.proofs.tail.text_reference.Statement.{statement}
+use Rattle.paragraph.proofs.tail.text_reference.Tie as tie
 
 is-label-requires : tie.Need-is-label-requires
 is-label-requires c κs = search needs

@@ -1,0 +1,56 @@
+-- A run of plain bytes: each is a piece in no pair, so the loop keeps what it keeps.
+use Prim.Native.Nat.{ℕ, zero, suc, _+_, _≤_, _<_}
+use native.Mathlib.Nat.{add-zero}
+use native.Mathlib.Omega.{arith}
+use mathlib.Core.Path.{_≡_, refl}
+use mathlib.Core.Bool.{true}
+use mathlib.Core.List.{List}
+use lib.ListN.{length, getD, drop, length-drop}
+use Rattle.scan.specs.Test.{by}
+use Rattle.scan.specs.Scan.{at-cons, run, run-yes, run-no, past}
+use Rattle.marking.specs.Marking.{plain}
+use Rattle.row.specs.declared.Definition.{Definition}
+use Rattle.inline.specs.Pieces.{quiet}
+use Rattle.inline.specs.Start.{piece}
+use Rattle.inline.specs.PieceBounds.{run-fits}
+use Rattle.paragraph.specs.declared.Walk.{Walk}
+use Rattle.paragraph.proofs.Pieces.{quiet-other, at-quiet}
+use Rattle.paragraph.proofs.Step.{step-quiet}
+use Rattle.paragraph.proofs.Loop.{On}
+use Rattle.paragraph.proofs.Turns.{piece-on}
+
+-- a run that is not empty: its first byte, and the run after it
+module _ (p : List ℕ) (a n : ℕ) (e : run quiet (drop a p) ≡ suc n) where
+  run-inside : a < length p
+  run-inside = omega (arith, e, run-fits quiet (drop a p), length-drop a p)
+
+  run-first : quiet (getD p a 0) ≡ true
+  run-first =
+      by (quiet (getD p a 0)) (λ q. q)
+      (λ q. let z = run-no quiet (getD p a 0) (drop (a + 1) p) q in let f = rw (at-cons p a run-inside) at e in absurd (omega arith))
+
+  run-rest : run quiet (drop (a + 1) p) ≡ n
+  run-rest =
+      let z = run-yes quiet (getD p a 0) (drop (a + 1) p) run-first in let f = rw (at-cons p a run-inside) at e in omega arith
+
+pub plain-after : (p : List ℕ) (a : ℕ) {r : ℕ} → r ≡ past quiet p a → a ≤ r
+unfolding past
+plain-after p a e = omega arith
+
+abbrev moved : Walk → ℕ → Walk
+moved w at = record { at = at; last = w .last; row = w .row }
+
+module _ (offset : ℕ) (p : List ℕ) (labels : List (List ℕ)) (ds : List Definition) (k : ℕ) (t₀ : List ℕ) {stack : List ℕ} {depth : ℕ} {t : List ℕ} where
+  run-on : (n : ℕ) (w : Walk) → On offset p labels ds k t₀ stack depth w t → run quiet (drop (w .at) p) ≡ n
+      → On offset p labels ds k t₀ stack depth (moved w (w .at + n)) t
+  run-on zero w o e = rw (add-zero (w .at)) o
+  run-on (suc n) w o e =
+      let q = run-first p (w .at) n e in
+      let s = step-quiet offset p labels ds w t (piece plain (w .at) (w .at + 1)) (at-quiet p (w .at) q) refl in
+      let o′ = piece-on offset p labels ds k t₀ o (run-inside p (w .at) n e) (quiet-other p (w .at) q 91 refl) (λ z. absurd (quiet-other p (w .at) q 93 refl z)) s in
+      let m : w .at + 1 + n ≡ w .at + suc n = omega arith in
+      rw m at (run-on n (moved w (w .at + 1)) o′ (run-rest p (w .at) n e))
+
+  pub plain-on : {w : Walk} → On offset p labels ds k t₀ stack depth w t → {r : ℕ} → r ≡ past quiet p (w .at) → On offset p labels ds k t₀ stack depth (moved w r) t
+  unfolding past
+  plain-on {w} o e = rw e (run-on (run quiet (drop (w .at) p)) w o refl)

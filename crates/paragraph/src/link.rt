@@ -1,0 +1,69 @@
+// The row of a link.
+ghost use mathlib.Core.Path.{_≡_};
+ghost use Prim.Native.Nat.{_+_};
+ghost use Rattle.row.specs.Row.{SmallPart};
+ghost use Rattle.row.specs.Reading.{definitionsFrom};
+ghost use Rattle.span.specs.Row.{Small};
+ghost use Rattle.inline.specs.References.{moved};
+ghost use Rattle.inline.specs.Rows.{fromNote?};
+ghost use Rattle.paragraph.specs.Tail.{Names, shown};
+ghost use Rattle.paragraph.specs.Rows.{linkRow};
+use crate::tail;
+use crate::tail::Tail;
+use row::Range;
+use span::Span;
+
+// The part `r` of a tail that starts at place `at` of the paragraph, which starts at `start`.
+fn part_in_note(start: usize, at: usize, r: Range) -> Range
+    requires { ⌜ SmallPart (fromNote? start (moved at r)) ⌝ }
+    ensures { λ q. ⌜ q ≡ fromNote? start (moved at r) ⌝ }
+{
+    if r.start == 0 {
+        return Range::absent();
+    }
+    Range::new(start + (at + r.start), start + (at + r.end))
+}
+
+// The row of the link whose brackets stand at `opening` and `closing` of the paragraph, which starts at `start`.
+pub fn link_row(
+    start: usize,
+    opening: usize,
+    closing: usize,
+    t: Tail,
+    definitions: &[u32],
+    count: usize,
+) -> Span
+    requires { ⌜ Names count (now definitions) t ⌝ }
+    requires { ⌜ Small (linkRow start (definitionsFrom (now definitions) 0 count) opening closing (shown (closing + 1) t)) ⌝ }
+    ensures { λ r. ⌜ r ≡ linkRow start (definitionsFrom (now (definitions .entry)) 0 count) opening closing (shown (closing + 1) t) ⌝ }
+{
+    let whole = Range::new(
+        start + opening,
+        start + (closing + 1 + tail::tail_length(t)),
+    );
+    let text = Range::new(start + (opening + 1), start + closing);
+    match t {
+        Tail::Inline(q) => {
+            let destination = q.destination;
+            let title = q.title;
+            Span::inline(
+                whole,
+                text,
+                part_in_note(start, closing + 1, destination),
+                part_in_note(start, closing + 1, title),
+            )
+        }
+        Tail::Full(_, k) => {
+            let d = row::definition_at(definitions, k);
+            Span::full(whole, text, k, d.destination, d.title)
+        }
+        Tail::Collapsed(k) => {
+            let d = row::definition_at(definitions, k);
+            Span::collapsed(whole, text, k, d.destination, d.title)
+        }
+        Tail::Shortcut(k) => {
+            let d = row::definition_at(definitions, k);
+            Span::shortcut(whole, text, k, d.destination, d.title)
+        }
+    }
+}
