@@ -1,13 +1,14 @@
 -- The cursors find the rows that the reading looks up: rows of one sort do not overlap, and stand in order.
-use Prim.Native.Nat.{ℕ, _<_}
+use Prim.Native.Nat.{ℕ, _<_, _≤_}
 use native.Mathlib.Decide.{decLt}
 use native.Mathlib.Omega.{arith}
 use mathlib.Core.Path.{_≡_, refl, sym, ap, _∙_, subst}
 use mathlib.Core.Option.{Option, none, some, Option·some-injective, Option·none-ne-some}
 use mathlib.Core.List.{List, []}
-use mathlib.Core.Bool.{Bool, true, false, true≢false, not}
-use borrow.Author.Tests.{eqb-true, not-true}
+use mathlib.Core.Bool.{Bool, true, false, true≢false, not, _&&_}
+use borrow.Author.Tests.{eqb-true, not-true, leb-true, leb-false, lt-leb}
 use lib.ListN.{getD, getElem?}
+use lib.Dec.{leb}
 use Rattle.scan.specs.Test.{by, and-left, and-right}
 use Rattle.marking.specs.Marking.{Marking}
 use Rattle.marking.specs.Spans.{Span, codeSpan, linkSpan, SpanOf, In}
@@ -25,7 +26,7 @@ use Rattle.note.proofs.Rows.{in-rows-iff}
 use Rattle.note.proofs.Spans.{link-read, code-some}
 use Rattle.note.proofs.Placing.{at-getD}
 use Rattle.page.specs.Reading.{isCode, rowStart, textEnd, firstRow, codeStarts, linkStarts, linkCloses}
-use Rattle.page.specs.Cursor.{NextCode, NextLink, passing}
+use Rattle.page.specs.Cursor.{waits, Behind, Next, passing}
 use Rattle.page.proofs.Found.{by-found, found-in, not-found}
 use Rattle.page.proofs.Here.{marking-of}
 use Rattle.page.proofs.Apart.{rows-apart}
@@ -87,29 +88,54 @@ module _ (test : List ℕ → Bool) (rows : List (List ℕ)) (cursor : ℕ) (bef
       (λ r f. let (i, t) = found-in test rows r f in f ∙ sym (passing-some (getElem? rows cursor) r (at-cursor (getElem? rows cursor) refl (i .0) r (i .1) t) t))
       (λ n. n ∙ sym (passing-none (getElem? rows cursor) refl n))
 
+-- ---- what waiting says of a row
+pub code-waits : (i : ℕ) (r : List ℕ) → waits true i r ≡ true → (isCode r ≡ true) × (i ≤ rowStart r)
+code-waits i r e = (and-left (isCode r) _ e, leb-true i (rowStart r) (and-right (isCode r) _ e))
+
+pub link-waits : (i : ℕ) (r : List ℕ) → waits false i r ≡ true → (isCode r ≡ false) × (i ≤ textEnd r)
+link-waits i r e = (not-true (isCode r) (and-left (not (isCode r)) _ e), leb-true i (textEnd r) (and-right (not (isCode r)) _ e))
+
+code-passed : (i : ℕ) (r : List ℕ) → waits true i r ≡ false → isCode r ≡ true → rowStart r < i
+code-passed i r e c = leb-false i (rowStart r) (rw c at e)
+
+link-passed : (i : ℕ) (r : List ℕ) → waits false i r ≡ false → isCode r ≡ false → textEnd r < i
+link-passed i r e c = leb-false i (textEnd r) (rw c at e)
+
+-- where one test fails at a place, it fails at all later ones
+later : (t : Bool) (i j n : ℕ) → i ≤ j → (t && leb i n) ≡ false → (t && leb j n) ≡ false
+later false i j n h e = refl
+later true i j n h e = lt-leb j n (omega (arith, leb-false i n e))
+
+still-passed : (code : Bool) (i j : ℕ) (r : List ℕ) → i ≤ j → waits code i r ≡ false → waits code j r ≡ false
+still-passed true i j r = later (isCode r) i j (rowStart r)
+still-passed false i j r = later (not (isCode r)) i j (textEnd r)
+
+pub still-behind : {code : Bool} {rows : List (List ℕ)} {cursor i j : ℕ} → Behind code rows cursor i → i ≤ j → Behind code rows cursor j
+still-behind {code} {i = i} {j = j} b h = record { passed = λ k r l e. still-passed code i j r h (b .passed k r l e) }
+
 module _ (s : List ℕ) (cursor i : ℕ) where
-  pub code-at-cursor : NextCode (spanRows s) cursor i → firstRow (codeStarts i) (spanRows s) ≡ passing (codeStarts i) (getElem? (spanRows s) cursor)
+  pub code-at-cursor : Next true (spanRows s) cursor i → firstRow (codeStarts i) (spanRows s) ≡ passing (codeStarts i) (getElem? (spanRows s) cursor)
   code-at-cursor n = cursor-finds (codeStarts i) (spanRows s) cursor before after
     where
       before : (j : ℕ) (r : List ℕ) → j < cursor → getElem? (spanRows s) j ≡ some r → codeStarts i r ≡ true → ⊥
       before j r l e t =
           let st : rowStart r ≡ i = eqb-true (rowStart r) i (and-right (isCode r) _ t) in
-          absurd (omega (arith, n .before j r l e (and-left (isCode r) _ t)))
+          absurd (omega (arith, code-passed i r (n .before .passed j r l e) (and-left (isCode r) _ t)))
 
       after : (j : ℕ) (x r : List ℕ) → cursor < j → getElem? (spanRows s) cursor ≡ some x → getElem? (spanRows s) j ≡ some r → codeStarts i r ≡ true → ⊥
       after j x r l d e t =
           let st : rowStart r ≡ i = eqb-true (rowStart r) i (and-right (isCode r) _ t) in
-          let (c, h) = n .there x d in
+          let (c, h) = code-waits i x (n .there x d) in
           absurd (omega (arith, rows-apart s cursor j x r l d e (c ∙ sym (and-left (isCode r) _ t)), row-some s x (cursor, d)))
 
-  module _ (n : NextLink (spanRows s) cursor i) where
+  module _ (n : Next false (spanRows s) cursor i) where
     -- a link row that is not the one at the cursor neither starts nor has its text's end at i
     before : (j : ℕ) (r : List ℕ) → j < cursor → getElem? (spanRows s) j ≡ some r → isCode r ≡ false → (rowStart r < i) × (textEnd r < i)
-    before j r l e c = let (u, v) = link-text s r (j, e) c in (omega (arith, n .before j r l e c), omega (arith, n .before j r l e c))
+    before j r l e c = let (u, v) = link-text s r (j, e) c in let p = link-passed i r (n .before .passed j r l e) c in (omega arith, p)
 
     after : (j : ℕ) (x r : List ℕ) → cursor < j → getElem? (spanRows s) cursor ≡ some x → getElem? (spanRows s) j ≡ some r → isCode r ≡ false → (i < rowStart r) × (i < textEnd r)
     after j x r l d e c =
-        let (c′, h) = n .there x d in
+        let (c′, h) = link-waits i x (n .there x d) in
         let a = rows-apart s cursor j x r l d e (c′ ∙ sym c) in
         let (u, v) = link-text s r (j, e) c in
         let (u′, v′) = link-text s x (cursor, d) c′ in

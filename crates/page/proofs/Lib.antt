@@ -16,5 +16,7 @@ pub mod Claims
 -- cursors into the rows
 pub mod Apart
 pub mod Cursors
+-- the parts of a row
+pub mod Parts
 -- the samples by the law
 pub mod Bench

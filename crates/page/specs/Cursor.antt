@@ -1,21 +1,26 @@
 -- A pass over a note's bytes with two cursors into its span rows: the next code span, and the next link, which may be open.
-use Prim.Native.Nat.{ℕ, _<_, _≤_}
+use Prim.Native.Nat.{ℕ, _<_}
 use mathlib.Core.Path.{_≡_}
 use mathlib.Core.Option.{Option, none, some}
 use mathlib.Core.List.{List}
-use mathlib.Core.Bool.{Bool, true, false, cond}
+use mathlib.Core.Bool.{Bool, true, false, cond, not, _&&_}
 use lib.ListN.{getElem?}
+use lib.Dec.{leb}
 use Rattle.page.specs.Reading.{isCode, rowStart, textEnd}
 
--- at place i: the code spans before the cursor started before it; the row at the cursor, if there is one, is a code span that did not
-pub record NextCode (rows : List (List ℕ)) (cursor i : ℕ) : Type 0 where
-  pub before : (j : ℕ) (r : List ℕ) → j < cursor → getElem? rows j ≡ some r → isCode r ≡ true → rowStart r < i
-  pub there : (r : List ℕ) → getElem? rows cursor ≡ some r → (isCode r ≡ true) × (i ≤ rowStart r)
+-- the row is a code span (true) that does not start before place i, or a link (false) whose text does not end before it
+abbrev pub waits : Bool → ℕ → List ℕ → Bool
+waits true i r = isCode r && leb i (rowStart r)
+waits false i r = not (isCode r) && leb i (textEnd r)
 
--- at place i: the texts of the links before the cursor ended before it; the row at the cursor, if there is one, is a link whose text did not
-pub record NextLink (rows : List (List ℕ)) (cursor i : ℕ) : Type 0 where
-  pub before : (j : ℕ) (r : List ℕ) → j < cursor → getElem? rows j ≡ some r → isCode r ≡ false → textEnd r < i
-  pub there : (r : List ℕ) → getElem? rows cursor ≡ some r → (isCode r ≡ false) × (i ≤ textEnd r)
+-- at place i no row before the cursor still waits
+pub record Behind (code : Bool) (rows : List (List ℕ)) (cursor i : ℕ) : Type 0 where
+  pub passed : (j : ℕ) (r : List ℕ) → j < cursor → getElem? rows j ≡ some r → waits code i r ≡ false
+
+-- and the row at the cursor, if there is one, does
+pub record Next (code : Bool) (rows : List (List ℕ)) (cursor i : ℕ) : Type 0 where
+  pub before : Behind code rows cursor i
+  pub there : (r : List ℕ) → getElem? rows cursor ≡ some r → waits code i r ≡ true
 
 -- the row at the cursor, where it passes the test
 abbrev pub passing : (List ℕ → Bool) → Option (List ℕ) → Option (List ℕ)

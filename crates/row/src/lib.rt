@@ -79,7 +79,7 @@ pub fn store(table: &mut [u32], k: usize, d: Definition)
 }
 
 // The part whose start and end stand at `at`.
-fn range_at(table: &[u32], at: usize) -> Range
+pub fn range_at(table: &[u32], at: usize) -> Range
     requires { ⌜ at + 1 < length (now table) ⌝ }
     ensures { λ r. ⌜ r ≡ rangeAt (now (table .entry)) at ⌝ }
 {

@@ -5,7 +5,7 @@ use mathlib.Core.List.{List, [], _∷_, _++_}
 use lib.ListN.{replicate}
 use Rattle.rows.specs.Rows
 use Rattle.row.specs.Row.{range, absent}
-use Rattle.span.specs.Row.{numbers, codeSpan, inline, full, collapsed, shortcut, filled}
+use Rattle.span.specs.Row.{numbers, codeSpan, inline, full, collapsed, shortcut, filled, rowAt, spanAt}
 
 -- ---- a row of each kind
 pub record SpanRows : Type 0 where
@@ -56,3 +56,12 @@ pub record Tables : Type 0 where
 pub tables : Tables
 unfolding Rows.filled Rows.rows
 tables = record { none = refl; short = refl; one = refl; one-and-more = refl; one-and-nine = refl; two = refl; two-and-more = refl }
+
+-- ---- and read back
+pub record ReadBack : Type 0 where
+  pub first : spanAt (code ++ link ++ 9 ∷ []) 0 ≡ codeSpan (range 0 5) (range 1 4)
+  pub second : spanAt (code ++ link ++ 9 ∷ []) 1 ≡ shortcut (range 27 32) (range 28 31) 0 (range 7 14) (range 16 20)
+  pub second-row : rowAt (code ++ link ++ 9 ∷ []) 1 ≡ link
+
+pub read-back : ReadBack
+read-back = record { first = refl; second = refl; second-row = refl }

@@ -3,7 +3,7 @@ ghost use mathlib.Core.Path.{_≡_};
 ghost use Prim.Native.Nat.{_+_, _<_, _^_};
 ghost use lib.ListN.{length};
 ghost use Rattle.row.specs.Row.{SmallPart};
-ghost use Rattle.span.specs.Row.{codeSpan, inline, reference, full, collapsed, shortcut, Small, wholeRows, storedHalf, stored};
+ghost use Rattle.span.specs.Row.{codeSpan, inline, reference, full, collapsed, shortcut, Small, wholeRows, storedHalf, stored, spanAt};
 use row::Range;
 
 // A code span or a link: its kind, from where to where it runs, the text between its backtick strings or brackets, the
@@ -129,5 +129,27 @@ pub fn store(table: &mut [u32], k: usize, s: Span)
         let at = k * Span::WIDTH;
         store_half(table, at, s.kind, s.whole, s.text);
         store_half(table, at + 5, s.definition as u32, s.destination, s.title);
+    }
+}
+
+// The span whose row is row `k`.
+pub fn span_at(table: &[u32], k: usize) -> Span
+    requires { ⌜ k < wholeRows (now table) ⌝ }
+    ensures { λ r. ⌜ r ≡ spanAt (now (table .entry)) k ⌝ }
+{
+    let at = k * Span::WIDTH;
+    let kind = table[at];
+    let whole = row::range_at(table, at + 1);
+    let text = row::range_at(table, at + 3);
+    let definition = table[at + 5] as usize;
+    let destination = row::range_at(table, at + 6);
+    let title = row::range_at(table, at + 8);
+    Span {
+        kind,
+        whole,
+        text,
+        definition,
+        destination,
+        title,
     }
 }

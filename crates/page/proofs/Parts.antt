@@ -1,0 +1,105 @@
+-- A row's destination and title are in order: neither ends before it starts.
+use Prim.Native.Nat.{ℕ, zero, suc, _+_, _≤_, _<_}
+use native.Mathlib.Omega.{arith}
+use mathlib.Core.Path.{subst}
+use mathlib.Core.Option.{Option, none, some}
+use mathlib.Core.List.{List, [], _∷_, List·Memᴰ, List·Memᴰ·head, List·Memᴰ·tail, List·Memᴰ·append-cases, List·Memᴰ·not-nil}
+use mathlib.Core.Logic.{inl, inr, ⊎-elim}
+use lib.ListN.{length, getD, length-map}
+use Rattle.marking.specs.Marking.{Marking}
+use Rattle.marking.specs.Spans.{Span, codeSpan, linkSpan, SpanOf, In}
+use Rattle.block.specs.Block.{Placed}
+use Rattle.row.specs.declared.Range.{Range}
+use Rattle.row.specs.declared.Definition.{Definition}
+use Rattle.row.specs.Row.{absent, definition}
+use Rattle.row.specs.First.{bytesOf, labelsOf}
+use Rattle.definition.specs.Reading.{definitionAt, takingFrom, definitionsFrom, upToEnd, definitionsOf, definitionsIn, definitions}
+use Rattle.definition.proofs.Endings.{TitlePlace}
+use Rattle.definition.proofs.Places.{definition-places}
+use Rattle.definition.proofs.Takings.{by-entry, from-none, from-one}
+use Rattle.inline.specs.Tails.{Tail, inline, full, collapsed, shortcut}
+use Rattle.inline.specs.Rows.{Target, defined, targetOf, fromNote?, PartBetween}
+use Rattle.inline.proofs.SpanBounds.{inline-parts-within, number-defined}
+use Rattle.note.specs.Note.{MarkingOf}
+use Rattle.note.specs.Reading.{spanRows}
+use Rattle.note.proofs.Members.{at-member}
+use Rattle.note.proofs.Placing.{from-span, at-getD}
+use Rattle.page.specs.Reading.{destination, title}
+
+abbrev InOrder : Range → Type 0
+InOrder r = r .start ≤ r .end
+
+-- a destination and a title
+record BothInOrder (d t : Range) : Type 0 where
+  destination : InOrder d
+  title : InOrder t
+
+-- ---- of a definition
+abbrev Each : List Definition → Type 0
+Each ds = (d : Definition) → List·Memᴰ d ds → BothInOrder (d .destination) (d .title)
+
+each-cons : (c : Definition) (ds : List Definition) → BothInOrder (c .destination) (c .title) → Each ds → Each (c ∷ ds)
+each-cons c ds p f d (List·Memᴰ·head e) = rw e p
+each-cons c ds p f d (List·Memᴰ·tail m) = f d m
+
+title-ordered : {z t u n : ℕ} → TitlePlace z t u n → t ≤ u
+title-ordered (inl (x, y)) = omega arith
+title-ordered (inr (x, y, z)) = y
+
+taken-in-order : (s : List ℕ) (k at : ℕ) → Each (takingFrom k s at .definitions)
+unfolding takingFrom
+taken-in-order s zero at = λ d m. absurd (List·Memᴰ·not-nil m)
+taken-in-order s (suc k) at =
+    by-entry (definitionAt s at)
+    (λ e. rw (from-none s (suc k) at e) (λ d m. absurd (List·Memᴰ·not-nil m)))
+    (λ c n e.
+    let p = definition-places s at c n e in
+    rw (from-one s k at c n e)
+    (each-cons c (takingFrom k s n .definitions) (record { destination = p .destination; title = title-ordered (p .title) }) (taken-in-order s k n)))
+
+read-in-order : (s : List ℕ) (bs : List Placed) → Each (definitionsIn s bs)
+unfolding definitionsIn definitionsOf definitionsFrom
+read-in-order s [] d m = absurd (List·Memᴰ·not-nil m)
+read-in-order s (b ∷ bs) d m =
+    ⊎-elim (λ x. taken-in-order (upToEnd s b) (length (upToEnd s b)) (b .at) d x) (λ y. read-in-order s bs d y)
+    (List·Memᴰ·append-cases (definitionsFrom (upToEnd s b) (b .at) .definitions) m)
+
+definitions-in-order : (s : List ℕ) → Each (definitions s)
+unfolding definitions
+definitions-in-order s = read-in-order s _
+
+-- ---- of a row
+part-in-order : (offset lo hi : ℕ) (r : Option Range) → PartBetween lo hi r → InOrder (fromNote? offset r)
+part-in-order offset lo hi none p = omega arith
+part-in-order offset lo hi (some r) p = omega (arith, p .1)
+
+module _ (s : List ℕ) where
+  abbrev TargetInOrder : Target → Type 0
+  TargetInOrder t = BothInOrder (t .destination) (t .title)
+
+  defined-in-order : (k : ℕ) → k + 1 ≤ length (labelsOf s (definitions s)) → TargetInOrder (defined (definitions s) k)
+  defined-in-order k f =
+      let ds = definitions s in
+      let h : k < length ds = omega (arith, length-map ds (λ (d : Definition). bytesOf s (d .label))) in
+      let x : Definition = getD ds k (definition absent absent absent) in
+      definitions-in-order s x (at-member ds k x (at-getD ds k (definition absent absent absent) h))
+
+  module _ (q : Placed) (m : Marking Tail) (c : MarkingOf s (definitions s) q m) where
+    abbrev numbered : (x : Span Tail) → SpanOf m x → targetOf (q .at) (definitions s) x .number ≤ length (labelsOf s (definitions s))
+    numbered = number-defined (q .bytes) (labelsOf s (definitions s)) m c (q .at) (definitions s)
+
+    target-in-order : (x : Span Tail) → SpanOf m x → TargetInOrder (targetOf (q .at) (definitions s) x)
+    target-in-order (codeSpan p) y = record { destination = omega arith; title = omega arith }
+    target-in-order (linkSpan o d (inline n a b)) y =
+        let (l, t) = inline-parts-within (q .bytes) (labelsOf s (definitions s)) m c o d n a b y in
+        record { destination = part-in-order (q .at) (d .end) (d .end + n) a l; title = part-in-order (q .at) (d .end) (d .end + n) b t }
+    target-in-order (linkSpan o d (full n k)) y = defined-in-order k (numbered (linkSpan o d (full n k)) y)
+    target-in-order (linkSpan o d (collapsed k)) y = defined-in-order k (numbered (linkSpan o d (collapsed k)) y)
+    target-in-order (linkSpan o d (shortcut k)) y = defined-in-order k (numbered (linkSpan o d (shortcut k)) y)
+
+  -- neither the destination nor the title of a row ends before it starts
+  pub parts-in-order : (row : List ℕ) → In row (spanRows s) → InOrder (destination row) × InOrder (title row)
+  parts-in-order row i =
+      let f = from-span s row i in
+      let b = target-in-order (f .paragraph) (f .marking) (f .meets) (f .span) (f .of-marking) in
+      subst (λ (r : List ℕ). InOrder (destination r) × InOrder (title r)) (f .row-is) (b .destination, b .title)

@@ -1,0 +1,59 @@
+-- The rows that the search in the table gives are the note's, and what the reading looks up is found at the cursor.
+use Prim.Native.Nat.{ℕ, _≤_, _<_}
+use native.Mathlib.Decide.{decLt}
+use native.Mathlib.Omega.{arith}
+use mathlib.Core.Path.{_≡_, refl, sym, ap, _∙_, subst}
+use mathlib.Core.Option.{Option, none, some, Option·some-injective}
+use mathlib.Core.List.{List}
+use mathlib.Core.Bool.{Bool, true, false}
+use lib.ListN.{getElem?}
+use Rattle.marking.proofs.Lists.{at-inside}
+use Rattle.span.specs.Row.{rowAt}
+use Rattle.note.specs.Reading.{spanRows}
+use Rattle.page.specs.Reading.{firstRow}
+use Rattle.page.specs.Cursor.{waits, Behind, Next, passing}
+use Rattle.page.proofs.Cursors.{still-behind}
+use Rattle.writer.specs.Spanned.{Spanned}
+use Rattle.writer.specs.Pass.{Finds}
+
+module _ {s u : List ℕ} {count : ℕ} (d : Spanned s u count) where
+  -- ---- the table's rows are the note's
+  row-is : (j : ℕ) (r : List ℕ) → getElem? (spanRows s) j ≡ some r → (j < count) × (rowAt u j ≡ r)
+  row-is j r e =
+      let h : j < count = omega (arith, at-inside (spanRows s) j r e, d .counted) in
+      (h, Option·some-injective (rowAt u j) r (sym (d .rows-are j h) ∙ e))
+
+  pub next-found : {code : Bool} {i start k : ℕ} → Behind code (spanRows s) start i → Finds u count code i start k → Next code (spanRows s) k i
+  next-found {code} {i} {start} {k} b f = record {
+    before = record { passed = before };
+    there = λ r e. let (h, q) = row-is k r e in subst (λ (x : List ℕ). waits code i x ≡ true) q (f .there h);
+  }
+    where
+      before : (j : ℕ) (r : List ℕ) → j < k → getElem? (spanRows s) j ≡ some r → waits code i r ≡ false
+      before j r l e = cases (decLt j start)
+        where
+          cases : Dec (j < start) → waits code i r ≡ false
+          cases (yes z) = b .passed j r z e
+          cases (no z) = subst (λ (x : List ℕ). waits code i x ≡ false) (row-is j r e .1) (f .passed j (omega arith) l)
+
+  -- ---- the row at a cursor
+  module _ {code : Bool} {i k : ℕ} (n : Next code (spanRows s) k i) where
+    pub waiting : k < count → waits code i (rowAt u k) ≡ true
+    waiting h = n .there (rowAt u k) (d .rows-are k h)
+
+    pub next-later : (j : ℕ) → i ≤ j → (k < count → waits code j (rowAt u k) ≡ true) → Next code (spanRows s) k j
+    next-later j l f = record {
+      before = still-behind (n .before) l;
+      there = λ r e. let (h, q) = row-is k r e in subst (λ (x : List ℕ). waits code j x ≡ true) q (f h);
+    }
+
+  module _ (test : List ℕ → Bool) (k : ℕ) (f : firstRow test (spanRows s) ≡ passing test (getElem? (spanRows s) k)) where
+    pub finds : k < count → test (rowAt u k) ≡ true → firstRow test (spanRows s) ≡ some (rowAt u k)
+    finds h t = f ∙ ap (passing test) (d .rows-are k h) ∙ rw t refl
+
+    pub finds-none : (k < count → test (rowAt u k) ≡ false) → firstRow test (spanRows s) ≡ none
+    finds-none g = f ∙ cases (getElem? (spanRows s) k) refl
+      where
+        cases : (o : Option (List ℕ)) → getElem? (spanRows s) k ≡ o → passing test o ≡ none
+        cases none e = refl
+        cases (some r) e = let (h, q) = row-is k r e in let t : test r ≡ false = subst (λ (x : List ℕ). test x ≡ false) q (g h) in rw t refl

@@ -1,0 +1,58 @@
+-- Each turn writes a paragraph.
+use Prim.Native.Nat.{_-_}
+use lib.ListN.{length}
+use borrow.Author.Needs.{needs}
+use Rattle.writer.proofs.Pages.{Pages, pages, all-written, less, starts, further}
+use Rattle.writer.proofs.write_page.Statement.{statement}
+use Rattle.writer.proofs.write_page.Tie as tie
+
+ruleset turns = (pages, all-written, less, starts, further, needs)
+
+abbrev Inv-loop : tie.InvT-loop
+Inv-loop note spans count page₀ next₀ p₀ page next p = Pages note page₀ page next p
+
+abbrev μ-loop : tie.MeasureT-loop
+μ-loop note spans count page₀ next₀ p₀ page next p = length note - next
+
+loop-holds : tie.Need-loop-holds Inv-loop μ-loop
+loop-holds c = search turns
+
+next-paragraph-requires : tie.Need-next-paragraph-requires Inv-loop μ-loop
+next-paragraph-requires c κs = search turns
+
+enum-known-start : tie.Need-enum-known-start Inv-loop μ-loop
+enum-known-start c = search turns
+
+enum-told : tie.Need-enum-told Inv-loop μ-loop
+enum-told c = search turns
+
+same-length : tie.Need-same-length Inv-loop μ-loop
+same-length c = c .before .before .before .loop .inv .written .same
+
+returns : tie.Need-returns Inv-loop μ-loop
+returns c = search turns
+
+write-paragraph-requires : tie.Need-write-paragraph-requires Inv-loop μ-loop
+write-paragraph-requires c κs = search turns
+
+loop-less : tie.Need-loop-less Inv-loop μ-loop
+loop-less c = search turns
+
+loop-again : tie.Need-loop-again Inv-loop μ-loop
+loop-again c = search turns
+
+pub write-page-spec : {M : Type 1} → statement M
+write-page-spec =
+    tie.close
+    (tie.spec
+    Inv-loop
+    μ-loop
+    loop-holds
+    next-paragraph-requires
+    enum-known-start
+    enum-told
+    same-length
+    returns
+    write-paragraph-requires
+    loop-less
+    loop-again)

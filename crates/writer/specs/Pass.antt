@@ -1,0 +1,104 @@
+-- One pass over the note's bytes, which writes the page: where it stands, and what each step of it leaves.
+use Prim.Native.Nat.{ℕ, _+_, _-_, _≤_, _<_}
+use mathlib.Core.Path.{_≡_}
+use mathlib.Core.List.{List}
+use mathlib.Core.Logic.{_⊎_}
+use mathlib.Core.Bool.{Bool, true, false, cond}
+use lib.ListN.{length, take}
+use lib.Dec.{leb, ltb, eqb}
+use Rattle.marking.specs.Spans.{In}
+use Rattle.row.specs.First.{bytesOf}
+use Rattle.span.specs.Row.{rowAt}
+use Rattle.walk.specs.Walk.{between}
+use Rattle.inline.specs.Rows.{rowEnd}
+use Rattle.note.specs.Reading.{spanRows}
+use Rattle.html.specs.Page.{linkClose}
+use Rattle.html.specs.Reading.{codeSpan, linkOpen}
+use Rattle.html.specs.Stored.{pageMost, Writes}
+use Rattle.html.proofs.Writing.{Leads}
+use Rattle.page.specs.Reading.{isCode, rowStart, textEnd, text, destination, title, Written, paragraphPage}
+use Rattle.page.specs.Cursor.{waits, Behind}
+use Rattle.page.proofs.Turns.{from, here, Bare}
+use Rattle.writer.specs.declared.Pass.{Pass}
+
+-- ---- rows of the table
+-- the search from row `start` on ends at row k: those before it do not wait, and it does, if it is one of the `count` rows
+pub record Finds (u : List ℕ) (count : ℕ) (code : Bool) (i start k : ℕ) : Type 0 where
+  pub passed : (j : ℕ) → start ≤ j → j < k → waits code i (rowAt u j) ≡ false
+  pub there : k < count → waits code i (rowAt u k) ≡ true
+
+-- where a row that waits at place i next calls for something: at its start, or where its text ends
+abbrev pub nextPlace : List ℕ → ℕ → ℕ
+nextPlace r i = cond (leb i (rowStart r)) (rowStart r) (textEnd r)
+
+-- that of row k, or e if that comes first or there is no such row
+unfoldable pub rowPlace : List ℕ → ℕ → ℕ → ℕ → ℕ → ℕ
+rowPlace u count k i e = cond (ltb k count) (cond (ltb (nextPlace (rowAt u k) i) e) (nextPlace (rowAt u k) i) e) e
+
+-- ---- a paragraph of the note s that ends at e
+module _ (s : List ℕ) (e : ℕ) where
+  -- what is still to write of it at place i
+  abbrev pub left : ℕ → List ℕ
+  left i = from s (spanRows s) (take e s) 0 i
+
+  -- what the row r calls for at place i
+  abbrev pub byRow : List ℕ → ℕ → Written
+  byRow r i =
+      cond (isCode r) (record { size = rowEnd r - rowStart r; bytes = codeSpan (bytesOf s (text r)) })
+      (cond (eqb i (rowStart r)) (record { size = 1; bytes = linkOpen (bytesOf s (destination r)) (bytesOf s (title r)) }) (record { size = rowEnd r - textEnd r; bytes = linkClose }))
+
+  -- place i lies in the paragraph; the row r of the note starts there, or is a link whose text ends there, and what is written is what it calls for
+  pub record Called (r : List ℕ) (i : ℕ) : Type 0 where
+    pub is-row : In r (spanRows s)
+    pub stands : (rowStart r ≡ i) ⊎ ((isCode r ≡ false) × (textEnd r ≡ i))
+    pub inside : i < e
+    pub within : e ≤ length s
+    pub called : here s (spanRows s) (take e s) 0 i ≡ byRow r i
+
+  -- from place i up to place k, within the paragraph, no row calls for anything
+  pub record Plain (i k : ℕ) : Type 0 where
+    pub some : i < k
+    pub inside : k ≤ e
+    pub within : e ≤ length s
+    pub bare : (j : ℕ) → i ≤ j → j < k → Bare s (spanRows s) (take e s) 0 j
+
+  -- what is left of the paragraph at p fits
+  abbrev pub Room : Pass → Type 0
+  Room p = p .size + length (left (p .at)) ≤ pageMost
+
+  -- the pass goes on from p to r; the page has become page′
+  pub record Passes (p : Pass) (page : List ℕ) (r : Pass) (page′ : List ℕ) : Type 0 where
+    pub written : Leads page (p .size) (left (p .at)) page′ (r .size) (left (r .at))
+    pub onward : p .at < r .at
+    pub same-code : r .code ≡ p .code
+    pub same-link : r .link ≡ p .link
+
+-- ---- the cursors of p at place i
+pub record Cursors (s : List ℕ) (p : Pass) (i : ℕ) : Type 0 where
+  pub code : Behind true (spanRows s) (p .code) i
+  pub link : Behind false (spanRows s) (p .link) i
+
+-- p stands in a paragraph that ends at e, with its cursors, and what is left of it fits
+pub record Stands (s : List ℕ) (e : ℕ) (p : Pass) : Type 0 where
+  pub inside : p .at < e
+  pub within : e ≤ length s
+  pub cursors : Cursors s p (p .at)
+  pub room : Room s e p
+
+-- the pass goes on from p to r, its cursors moved to where they stand for the place p .at
+pub record Goes (s : List ℕ) (e : ℕ) (p : Pass) (page : List ℕ) (r : Pass) (page′ : List ℕ) : Type 0 where
+  pub written : Leads page (p .size) (left s e (p .at)) page′ (r .size) (left s e (r .at))
+  pub onward : p .at < r .at
+  pub cursors : Cursors s r (p .at)
+
+-- p stands at the start of a paragraph that ends at e, and there is room for it
+pub record Starts (s : List ℕ) (e : ℕ) (p : Pass) : Type 0 where
+  pub ordered : p .at ≤ e
+  pub within : e ≤ length s
+  pub cursors : Cursors s p (p .at)
+  pub room : p .size + length (paragraphPage s (spanRows s) (between s (p .at) e)) ≤ pageMost
+
+-- the paragraph is written, and the cursors stand for its end
+pub record Ends (s : List ℕ) (e : ℕ) (p : Pass) (page : List ℕ) (r : Pass) (page′ : List ℕ) : Type 0 where
+  pub written : Writes page (p .size) (paragraphPage s (spanRows s) (between s (p .at) e)) page′ (r .size)
+  pub cursors : Cursors s r e

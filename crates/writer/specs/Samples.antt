@@ -1,0 +1,70 @@
+-- Document 01's whole example, and a code span before its link: where the rows call for something, and for what.
+use Prim.Native.Nat.{ℕ}
+use mathlib.Core.Path.{_≡_, refl}
+use mathlib.Core.List.{List, [], _∷_, _++_, flatMap}
+use mathlib.Core.Bool.{true, false}
+use Rattle.scan.specs.Ascii.{ascii}
+use Rattle.scan.specs.Scan.{run}
+use Rattle.html.specs.Page.{escaped, stays, hexDigit, hrefByte}
+use Rattle.html.specs.Reading.{undone, margin, titleAttribute, linkOpen}
+use Rattle.page.specs.Reading.{Written}
+use Rattle.page.specs.Cursor.{waits}
+use Rattle.writer.specs.Pass.{nextPlace, rowPlace, byRow}
+
+abbrev note : List ℕ
+note = ascii "[max]: /q2/max \"June\"\n\nUse [max].\n"
+
+-- "Span row 5 27 32 28 31 1 7 14 16 20."
+abbrev link : List ℕ
+link = 5 ∷ 27 ∷ 32 ∷ 28 ∷ 31 ∷ 1 ∷ 7 ∷ 14 ∷ 16 ∷ 20 ∷ []
+
+-- a code span from 23 to 26, whose text is one byte
+abbrev code : List ℕ
+code = 1 ∷ 23 ∷ 26 ∷ 24 ∷ 25 ∷ 0 ∷ 0 ∷ 0 ∷ 0 ∷ 0 ∷ []
+
+abbrev table : List ℕ
+table = code ++ link
+
+abbrev written : ℕ → List ℕ → Written
+written n w = record { size = n; bytes = w }
+
+pub record Places : Type 0 where
+  -- a code span waits up to its start, a link up to its text's end
+  pub code-waits : waits true 23 code ≡ true
+  pub code-passed : waits true 24 code ≡ false
+  pub link-waits : waits false 31 link ≡ true
+  pub link-passed : waits false 32 link ≡ false
+  pub other-sort : waits true 0 link ≡ false
+  -- a link calls for its tag at its start, then for `</a>` at its text's end
+  pub before-start : nextPlace link 23 ≡ 27
+  pub at-start : nextPlace link 27 ≡ 27
+  pub after-start : nextPlace link 28 ≡ 31
+  -- the row at a cursor, the end before it, and no row
+  pub second-row : rowPlace table 2 1 23 33 ≡ 27
+  pub end-first : rowPlace table 2 1 23 25 ≡ 25
+  pub no-row : rowPlace table 2 2 23 33 ≡ 33
+
+pub places : Places
+unfolding rowPlace
+places = record {
+  code-waits = refl;
+  code-passed = refl;
+  link-waits = refl;
+  link-passed = refl;
+  other-sort = refl;
+  before-start = refl;
+  at-start = refl;
+  after-start = refl;
+  second-row = refl;
+  end-first = refl;
+  no-row = refl;
+}
+
+pub record Calls : Type 0 where
+  pub opens : byRow note 33 link 27 ≡ written 1 (ascii "<a href=\"/q2/max\" title=\"June\">")
+  pub closes : byRow note 33 link 31 ≡ written 1 (ascii "</a>")
+  pub code-span : byRow note 33 code 23 ≡ written 3 (ascii "<code>s</code>")
+
+pub calls : Calls
+unfolding flatMap run escaped stays hexDigit hrefByte undone margin titleAttribute linkOpen
+calls = record { opens = refl; closes = refl; code-span = refl }
