@@ -5,9 +5,9 @@ of what each case is.
 EXAMPLES is the file of source examples (host/tests/data/examples.json), CONTAINER is crates/samples/stdin. What the
 program must write for it, crates/samples/stdout, is made from the container by the second reader (host, `cases`).
 
-A case is a header line of three numbers of six digits (numbers lent to the definition table, numbers lent to the
-span table, bytes of the note), the note, and a line end. Nothing here reads a note: where a case is to lend enough,
-it lends more rows than the note has brackets and backticks for."""
+A case is a header line of four numbers of six digits (numbers lent to the definition table, numbers lent to the
+span table, bytes lent to the page, bytes of the note), the note, and a line end. Nothing here reads a note: where a
+case is to lend enough, it lends more rows than the note has brackets and backticks for, and a page some times as long."""
 import json
 import random
 import sys
@@ -17,14 +17,17 @@ LONGEST = 32768
 cases = []
 
 
-def case(name, note, definitions=None, spans=None):
-    """A case of the note with so many numbers lent to each table; None lends enough, and part of a row more."""
+def case(name, note, definitions=None, spans=None, page=None):
+    """A case of the note with so many numbers lent to each table and so many bytes to the page; None lends enough, and
+    more: part of a row, bytes past the HTML."""
     note = note if isinstance(note, bytes) else note.encode()
     if definitions is None:
         definitions = DEFINITION * note.count(b']:') + 4
     if spans is None:
         spans = SPAN * (note.count(b']') + note.count(b'`') // 2) + 3
-    cases.append((name, definitions, spans, note))
+    if page is None:
+        page = min(6 * len(note) + 60, len(note) + 400)
+    cases.append((name, definitions, spans, page, note))
 
 
 def bench():
@@ -154,9 +157,26 @@ def tables():
     case('too deep, definition rows held', three + '[a] ' + '[' * 65, 25, 25)
     case('200 definitions, 200 rows lent', '[a]: /b\n' * 200, 1200, 0)
     case('201 definitions, 200 rows lent', '[a]: /b\n' * 201, 1200, 0)
-    case('300 spans, 300 rows lent', '`a` ' * 300, 0, 3000)
+    case('300 spans, 300 rows lent', '`a` ' * 300, 0, 3000, 4600)
     case('301 spans, 300 rows lent', '`a` ' * 301, 0, 3000)
-    case('spans of many paragraphs', '[a]: /b\n\n' + 'x [a] `c`\n\n' * 50, 6, 1005)
+    case('spans of many paragraphs', '[a]: /b\n\n' + 'x [a] `c`\n\n' * 50, 6, 1005, 2200)
+
+
+def pages():
+    whole = '[max]: /q2/max "June"\n\nUse [max].\n'  # its page has 51 bytes
+    for lent in (0, 1, 50, 51, 52, 60):
+        case(f'the whole example, {lent} bytes lent', whole, 6, 10, lent)
+    case('empty note, no page lent', '', 0, 0, 0)
+    case('definitions alone, no page lent', '[a]: b\n', 6, 0, 0)
+    case('too few span rows and too short a page', '[a]: b\n\n[a]', 6, 9, 0)
+    case('too deep and too short a page', '[' * 65, 0, 0, 0)
+    case('too few definition rows and too short a page', '[a]: b\n\n[a]', 5, 10, 0)
+    for text in ('a & b < c > d "e"', '\\& \\< \\> \\" \\\\ \\a', '`` ` `` ` a ` `  a  ` ` ` `\n`', '`a\nb\n` `\na\n` `&<>"\\`'):
+        case(f'text {text!r}', text)
+    for target in ('/a b', '<a b>', '/ä?x=1&y=2#z', "-_.~!*'();:@=+$,/?%#", '<[]^`{|}"\\>', '\\*\\&\\\\', '%20%zz', '/a "b & \\"c\\" <d>"', "/a ''", '<> ""', "/a (b 'c' \"d\")"):
+        case(f'target {target!r}', f'[t]({target})\n\n[d]: {target}\n\n[d]')
+    case('a long destination, referred to often', '[a]: /' + 'ä' * 300 + '\n\n' + '[a] ' * 12, 6, 120, 30000)
+    case('a paragraph after a definition, rows of two paragraphs', '[a]: /b "t"\nx [a]\n\n`c` [d](e)\n\n[a][] f', 6, 50, 400)
 
 
 def chance():
@@ -174,14 +194,14 @@ def main():
     source, container, listing = sys.argv[1:]
     bench()
     examples(source)
-    for group in (lengths, labels, brackets, definitions, tails, bad, tables, chance):
+    for group in (lengths, labels, brackets, definitions, tails, bad, tables, pages, chance):
         group()
     with open(container, 'wb') as out:
-        for _, lent_definitions, lent_spans, note in cases:
-            out.write(b'%06d %06d %06d\n' % (lent_definitions, lent_spans, len(note)) + note + b'\n')
+        for _, lent_definitions, lent_spans, lent_page, note in cases:
+            out.write(b'%06d %06d %06d %06d\n' % (lent_definitions, lent_spans, lent_page, len(note)) + note + b'\n')
     with open(listing, 'w', encoding='utf-8') as out:
-        for index, (name, lent_definitions, lent_spans, note) in enumerate(cases, 1):
-            out.write(f'{index}\t{lent_definitions}\t{lent_spans}\t{len(note)}\t{name}\n')
+        for index, (name, lent_definitions, lent_spans, lent_page, note) in enumerate(cases, 1):
+            out.write(f'{index}\t{lent_definitions}\t{lent_spans}\t{lent_page}\t{len(note)}\t{name}\n')
 
 
 main()

@@ -7,3 +7,4 @@ pub mod Few
 pub mod Filling
 pub mod Turns
 pub mod Returns
+pub mod Standing

@@ -2,3 +2,4 @@ pub mod Law
 pub mod Reader
 pub mod Claims
 pub mod Spans
+pub mod Samples

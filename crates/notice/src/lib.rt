@@ -1,4 +1,6 @@
 // The reader of a notice.
+pub mod answer;
+
 ghost use mathlib.Core.Path.{_≡_};
 ghost use Rattle.notice.specs.Reader.{Promise};
 ghost use Rattle.notice.specs.Spans.{Defined, NoteMarked, SpansRead};

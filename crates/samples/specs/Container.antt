@@ -1,4 +1,4 @@
--- What a header line of the container says: three numbers of six digits.
+-- What a header line of the container says: four numbers of six digits.
 use Prim.Native.Nat.{ℕ, _+_, _-_, _*_, _≤_, _<_}
 use mathlib.Core.Path.{_≡_, sym, _∙_}
 use mathlib.Core.Bool.{Bool, true, false, cond, _&&_}
@@ -48,31 +48,35 @@ taken n b s l u h = rw (le-leb 48 b l, le-leb b 57 u, lt-ltb n 100000 h)
 abbrev pub field : List ℕ → ℕ → List ℕ
 field line at = take 6 (drop at line)
 
--- 21 bytes with two spaces and a line end among them
+-- 28 bytes with three spaces and a line end among them
 abbrev pub ruled : List ℕ → Bool
-ruled line = ((eqb (length line) 21 && eqb (getD line 6 0) 32) && eqb (getD line 13 0) 32) && eqb (getD line 20 0) 10
+ruled line = (((eqb (length line) 28 && eqb (getD line 6 0) 32) && eqb (getD line 13 0) 32) && eqb (getD line 20 0) 32) && eqb (getD line 27 0) 10
 
-abbrev pub headerOf : Number → Number → Number → Header
-headerOf (number.Of d) (number.Of n) (number.Of k) = header.Case d n k
-headerOf number.Bad n k = header.Bad
-headerOf (number.Of d) number.Bad k = header.Bad
-headerOf (number.Of d) (number.Of n) number.Bad = header.Bad
+abbrev pub headerOf : Number → Number → Number → Number → Header
+headerOf (number.Of d) (number.Of n) (number.Of p) (number.Of k) = header.Case d n p k
+headerOf number.Bad n p k = header.Bad
+headerOf (number.Of d) number.Bad p k = header.Bad
+headerOf (number.Of d) (number.Of n) number.Bad k = header.Bad
+headerOf (number.Of d) (number.Of n) (number.Of p) number.Bad = header.Bad
 
--- three numbers of six digits
+-- four numbers of six digits
 abbrev pub lineOf : List ℕ → Header
 lineOf line =
-    cond (ruled line) (headerOf (numberFrom (field line 0) 0) (numberFrom (field line 7) 0) (numberFrom (field line 14) 0)) header.Bad
+    cond
+    (ruled line)
+    (headerOf (numberFrom (field line 0) 0) (numberFrom (field line 7) 0) (numberFrom (field line 14) 0) (numberFrom (field line 21) 0))
+    header.Bad
 
 -- ---- for the functions that read a header
-pub cased : {x y z : Number} {d n k : ℕ} → x ≡ number.Of d → y ≡ number.Of n → z ≡ number.Of k → header.Case d n k ≡ headerOf x y z
-cased e f g = rw (e, f, g)
+pub cased : {w x y z : Number} {d n p k : ℕ} → w ≡ number.Of d → x ≡ number.Of n → y ≡ number.Of p → z ≡ number.Of k → header.Case d n p k ≡ headerOf w x y z
+cased e f g h = rw (e, f, g, h)
 
-pub ruled-length : (line : List ℕ) {p : Bool} → p ≡ ruled line → p ≡ true → length line ≡ 21
-ruled-length line e t = eqb-true (length line) 21 (and-left _ _ (and-left _ _ (and-left _ _ (sym e ∙ t))))
+pub ruled-length : (line : List ℕ) {p : Bool} → p ≡ ruled line → p ≡ true → length line ≡ 28
+ruled-length line e t = eqb-true (length line) 28 (and-left _ _ (and-left _ _ (and-left _ _ (and-left _ _ (sym e ∙ t)))))
 
-pub said : (line : List ℕ) {p : Bool} {x y z : Number} {r : Header} → p ≡ ruled line → p ≡ true → x ≡ numberFrom (field line 0) 0 → y ≡ numberFrom (field line 7) 0 → z ≡ numberFrom (field line 14) 0
-    → r ≡ headerOf x y z → r ≡ lineOf line
-said line e t f g h r = rw (r, f, g, h, sym e ∙ t)
+pub said : (line : List ℕ) {p : Bool} {w x y z : Number} {r : Header} → p ≡ ruled line → p ≡ true → w ≡ numberFrom (field line 0) 0 → x ≡ numberFrom (field line 7) 0 → y ≡ numberFrom (field line 14) 0
+    → z ≡ numberFrom (field line 21) 0 → r ≡ headerOf w x y z → r ≡ lineOf line
+said line e t f g h i r = rw (r, f, g, h, i, sym e ∙ t)
 
 pub unsaid : (line : List ℕ) {p : Bool} → p ≡ ruled line → p ≡ false → header.Bad ≡ lineOf line
 unsaid line e f = rw (sym e ∙ f)

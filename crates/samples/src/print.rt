@@ -1,7 +1,8 @@
 // What the program writes. No contract can say what a call of C's writes, so these say only that they are safe and end.
-use crate::answer;
 use libc::STDOUT_FILENO;
 use notice::Reading;
+use notice::answer;
+use rendering::Rendering;
 ghost use Prim.Native.Nat.{_<_, _≤_};
 
 pub fn text(bytes: &[u8]) {
@@ -9,23 +10,34 @@ pub fn text(bytes: &[u8]) {
 }
 
 // A space and the number.
-pub fn number(n: usize) {
+pub fn number(n: u64) {
     text(b" ");
-    io::print_decimal(STDOUT_FILENO, n as u64);
+    io::print_decimal(STDOUT_FILENO, n);
 }
 
-// One line: the answer's number, its value, and the two counts.
+// One line: the reader's answer's number, its value, and the two counts.
 pub fn reading(r: Reading) {
     text(b"answer");
-    number(answer::number_of(r));
-    number(answer::value_of(r));
+    number(answer::number(r));
+    number(answer::value(r));
     number(answer::definition_count(r));
     number(answer::span_count(r));
     text(b"\n");
 }
 
-fn wide(n: u32) -> usize {
-    n as usize
+// One line: the page writer's answer's number, its value, the two counts, and the HTML's length.
+pub fn rendering(r: Rendering) {
+    text(b"rendering");
+    number(rendering::number(r));
+    number(rendering::value(r));
+    number(rendering::definition_count(r));
+    number(rendering::span_count(r));
+    number(rendering::page_length(r));
+    text(b"\n");
+}
+
+fn wide(n: u32) -> u64 {
+    n as u64
 }
 
 // One line: the name and the numbers of a row.

@@ -1,9 +1,9 @@
 //! Prints what the second reader answers for each case of the container that the program `samples`
 //! is run on (crates/samples/stdin), in the program's own format: the file crates/samples/stdout.
 //!
-//! The container is named as the argument, or is standard input. A case is a header line of three
+//! The container is named as the argument, or is standard input. A case is a header line of four
 //! numbers of six digits (numbers lent to the definition table, numbers lent to the span table,
-//! bytes of the note), the note, and a line end.
+//! bytes lent to the page, bytes of the note), the note, and a line end.
 
 use std::io::{Error, Read, Write};
 use std::process::ExitCode;
@@ -12,13 +12,16 @@ use host::second;
 
 /// What each lent number holds before the call.
 const GUARD: u32 = 99_999;
+/// What each byte of the page holds before the call: no byte of a note or a page.
+const PAGE_GUARD: u8 = 13;
 /// The length of a header line with its line end.
-const HEADER: usize = 21;
+const HEADER: usize = 28;
 
 /// One case of the container.
 struct Case<'a> {
     definition_numbers: usize,
     span_numbers: usize,
+    page_bytes: usize,
     note: &'a [u8],
 }
 
@@ -70,7 +73,7 @@ fn next_case(bytes: &[u8]) -> Option<(Case<'_>, &[u8])> {
         .split(' ')
         .map(|digits| digits.parse().ok())
         .collect::<Option<_>>()?;
-    let &[definition_numbers, span_numbers, length] = numbers.as_slice() else {
+    let &[definition_numbers, span_numbers, page_bytes, length] = numbers.as_slice() else {
         return None;
     };
     let (note, after) = bytes[HEADER..].split_at_checked(length)?;
@@ -78,15 +81,22 @@ fn next_case(bytes: &[u8]) -> Option<(Case<'_>, &[u8])> {
     let case = Case {
         definition_numbers,
         span_numbers,
+        page_bytes,
         note,
     };
     Some((case, after))
 }
 
-/// The answer, and both tables whole.
+/// What the reader and the page writer answer, and what they leave.
 fn print_case(out: &mut impl Write, index: usize, case: &Case) -> Result<(), Error> {
-    let answer = second::read(case.note, case.definition_numbers, case.span_numbers);
     writeln!(out, "case {index}")?;
+    print_reading(out, case)?;
+    print_rendering(out, case)
+}
+
+/// The reader's answer, and both tables whole.
+fn print_reading(out: &mut impl Write, case: &Case) -> Result<(), Error> {
+    let answer = second::read(case.note, case.definition_numbers, case.span_numbers);
     writeln!(
         out,
         "answer {} {} {} {}",
@@ -101,6 +111,23 @@ fn print_case(out: &mut impl Write, index: usize, case: &Case) -> Result<(), Err
         second::DEFINITION_ROW_WIDTH,
     )?;
     print_rows(out, "span", &spans, second::SPAN_ROW_WIDTH)
+}
+
+/// The page writer's answer, and the page buffer whole.
+fn print_rendering(out: &mut impl Write, case: &Case) -> Result<(), Error> {
+    let answer = second::render(
+        case.note,
+        case.definition_numbers,
+        case.span_numbers,
+        case.page_bytes,
+    );
+    writeln!(
+        out,
+        "rendering {} {} {} {} {}",
+        answer.number, answer.value, answer.definition_count, answer.span_count, answer.page_length
+    )?;
+    out.write_all(&answer.page_buffer(&vec![PAGE_GUARD; case.page_bytes]))?;
+    writeln!(out)
 }
 
 /// Every number of the table, a row to a line; what is no whole row at the end is a line too.

@@ -41,23 +41,20 @@ same-length-3 c = search needs
 returns-3 : tie.Need-returns-3
 returns-3 c = search needs
 
-slice-reshare-prefix-show-case : tie.Need-slice-reshare-prefix-show-case
-slice-reshare-prefix-show-case c = search needs
+slice-reshare-prefix-note : tie.Need-slice-reshare-prefix-note
+slice-reshare-prefix-note c = search needs
 
-slice-aggregate-show-case : tie.Need-slice-aggregate-show-case
-slice-aggregate-show-case c = simp length-take (omega arith)
+slice-aggregate-note : tie.Need-slice-aggregate-note
+slice-aggregate-note c = simp length-take (omega arith)
 
-show-case-requires : tie.Need-show-case-requires
-show-case-requires c κs = search needs
+show-reading-requires : tie.Need-show-reading-requires
+show-reading-requires c κs = search needs
+
+show-rendering-requires : tie.Need-show-rendering-requires
+show-rendering-requires c κs = search needs
 
 same-length-4 : tie.Need-same-length-4
 same-length-4 c = search needs
-
-same-length-5 : tie.Need-same-length-5
-same-length-5 c = search needs
-
-same-length-6 : tie.Need-same-length-6
-same-length-6 c = search needs
 
 returns-4 : tie.Need-returns-4
 returns-4 c = search needs
@@ -78,10 +75,9 @@ run-note-spec =
     stop-requires-3
     same-length-3
     returns-3
-    slice-reshare-prefix-show-case
-    slice-aggregate-show-case
-    show-case-requires
+    slice-reshare-prefix-note
+    slice-aggregate-note
+    show-reading-requires
+    show-rendering-requires
     same-length-4
-    same-length-5
-    same-length-6
     returns-4)

@@ -23,6 +23,12 @@ stop-requires-3 c κs = search needs
 returns-3 : tie.Need-returns-3
 returns-3 c = search needs
 
+stop-requires-4 : tie.Need-stop-requires-4
+stop-requires-4 c κs = search needs
+
+returns-4 : tie.Need-returns-4
+returns-4 c = search needs
+
 add-run-note : tie.Need-add-run-note
 add-run-note c = search needs
 
@@ -32,32 +38,14 @@ slice-relend-prefix-run-note c = search needs
 slice-aggregate-run-note : tie.Need-slice-aggregate-run-note
 slice-aggregate-run-note c = simp length-take (omega arith)
 
-slice-relend-prefix-run-note-2 : tie.Need-slice-relend-prefix-run-note-2
-slice-relend-prefix-run-note-2 c = search needs
-
-slice-aggregate-run-note-2 : tie.Need-slice-aggregate-run-note-2
-slice-aggregate-run-note-2 c = simp length-take (omega arith)
-
-slice-relend-prefix-run-note-3 : tie.Need-slice-relend-prefix-run-note-3
-slice-relend-prefix-run-note-3 c = search needs
-
-slice-aggregate-run-note-3 : tie.Need-slice-aggregate-run-note-3
-slice-aggregate-run-note-3 c = simp length-take (omega arith)
-
 run-note-requires : tie.Need-run-note-requires
 run-note-requires c κs = search needs
 
 same-length : tie.Need-same-length
 same-length c = search needs
 
-same-length-2 : tie.Need-same-length-2
-same-length-2 c = search needs
-
-same-length-3 : tie.Need-same-length-3
-same-length-3 c = search needs
-
-returns-4 : tie.Need-returns-4
-returns-4 c = search needs
+returns-5 : tie.Need-returns-5
+returns-5 c = search needs
 
 pub run-part-spec : {M : Type 1} → statement M
 run-part-spec =
@@ -69,15 +57,11 @@ run-part-spec =
     returns-2
     stop-requires-3
     returns-3
+    stop-requires-4
+    returns-4
     add-run-note
     slice-relend-prefix-run-note
     slice-aggregate-run-note
-    slice-relend-prefix-run-note-2
-    slice-aggregate-run-note-2
-    slice-relend-prefix-run-note-3
-    slice-aggregate-run-note-3
     run-note-requires
     same-length
-    same-length-2
-    same-length-3
-    returns-4)
+    returns-5)

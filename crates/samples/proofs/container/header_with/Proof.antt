@@ -1,4 +1,4 @@
--- Three numbers make a header.
+-- Four numbers make a header.
 use borrow.Author.Needs.{needs}
 use Rattle.samples.specs.Container.{cased}
 use Rattle.samples.proofs.container.header_with.Statement.{statement}
@@ -22,8 +22,8 @@ enum-told-2 c = search needs
 returns-2 : tie.Need-returns-2
 returns-2 c = search needs
 
-enum-known-length : tie.Need-enum-known-length
-enum-known-length c = search needs
+enum-known-page : tie.Need-enum-known-page
+enum-known-page c = search needs
 
 enum-told-3 : tie.Need-enum-told-3
 enum-told-3 c = search needs
@@ -31,8 +31,17 @@ enum-told-3 c = search needs
 returns-3 : tie.Need-returns-3
 returns-3 c = search needs
 
+enum-known-length : tie.Need-enum-known-length
+enum-known-length c = search needs
+
+enum-told-4 : tie.Need-enum-told-4
+enum-told-4 c = search needs
+
 returns-4 : tie.Need-returns-4
-returns-4 c = search (cased, needs)
+returns-4 c = search needs
+
+returns-5 : tie.Need-returns-5
+returns-5 c = search (cased, needs)
 
 pub header-with-spec : {M : Type 1} → statement M
 header-with-spec =
@@ -44,7 +53,10 @@ header-with-spec =
     enum-known-spans
     enum-told-2
     returns-2
-    enum-known-length
+    enum-known-page
     enum-told-3
     returns-3
-    returns-4)
+    enum-known-length
+    enum-told-4
+    returns-4
+    returns-5)

@@ -12,8 +12,12 @@ peek-requires-2 c κs = search needs
 peek-requires-3 : tie.Need-peek-requires-3
 peek-requires-3 c κs = search needs
 
+peek-requires-4 : tie.Need-peek-requires-4
+peek-requires-4 c κs = search needs
+
 returns : tie.Need-returns
-returns c = rw (c .before .before .peek .ensures, c .before .peek2 .ensures, c .peek3 .ensures)
+returns c = rw (c .before .before .before .peek .ensures, c .before .before .peek2 .ensures, c .before .peek3 .ensures, c .peek4 .ensures)
 
 pub is-ruled-spec : {M : Type 1} → statement M
-is-ruled-spec = tie.close (tie.spec peek-requires peek-requires-2 peek-requires-3 returns)
+is-ruled-spec =
+    tie.close (tie.spec peek-requires peek-requires-2 peek-requires-3 peek-requires-4 returns)

@@ -1,4 +1,4 @@
--- A ruled line has 21 bytes, so that each number lies within it.
+-- A ruled line has 28 bytes, so that each number lies within it.
 use borrow.Author.Needs.{needs}
 use native.Mathlib.Omega.{arith}
 use denote.Ref.{now}
@@ -45,6 +45,18 @@ part-read-number-end-3 c = omega (arith, ruled-length (now (c .before .before .b
 read-number-requires-3 : tie.Need-read-number-requires-3
 read-number-requires-3 c κs = search needs
 
+sub-read-number-4 : tie.Need-sub-read-number-4
+sub-read-number-4 c = search needs
+
+part-read-number-start-4 : tie.Need-part-read-number-start-4
+part-read-number-start-4 c = search needs
+
+part-read-number-end-4 : tie.Need-part-read-number-end-4
+part-read-number-end-4 c = omega (arith, ruled-length (now (c .before .before .before .before .before .before .before .before .before .args .line)) (c .before .before .before .before .before .before .before .is-ruled .ensures) (c .before .before .before .before .before .before .if1 .taken))
+
+read-number-requires-4 : tie.Need-read-number-requires-4
+read-number-requires-4 c κs = search needs
+
 header-with-requires : tie.Need-header-with-requires
 header-with-requires c κs = search needs
 
@@ -71,6 +83,10 @@ read-header-spec =
     part-read-number-start-3
     part-read-number-end-3
     read-number-requires-3
+    sub-read-number-4
+    part-read-number-start-4
+    part-read-number-end-4
+    read-number-requires-4
     header-with-requires
     returns
     returns-2)

@@ -1,0 +1,114 @@
+-- The reader's answers by computation, with what both tables hold before and after: the whole example of document 01, each refusal, and their order.
+use Prim.Native.Nat.{ℕ}
+use Prim.Native.String.{String}
+use mathlib.Core.Path.{_≡_, refl}
+use mathlib.Core.List.{List, [], _∷_, _++_, map}
+use lib.ListN.{replicate}
+use Rattle.scan.specs.Ascii.{ascii}
+use Rattle.scan.specs.Scan.{scan as scanBytes, run, past}
+use Rattle.scan.specs.Leap.{leap}
+use Rattle.scan.specs.Closing.{closingStep, closing}
+use Rattle.text.specs.Utf8.{table}
+use Rattle.text.specs.Reading.{onesFrom, leadingOnes, sequenceLength, characters, rowFor, starts, characterLength, goodLength, firstBadPast, firstBad, checkOf}
+use Rattle.label.specs.Reading.{inky, fitsAfter, fits, labelEnd, unclosed, isLabel}
+use Rattle.target.specs.Reading.{spaceFrom, depthAfter, rawStep, rawRun, judged, destinationOf, closer, titleOf}
+use Rattle.matching.specs.Form.{fold}
+use Rattle.matching.specs.Reading.{spaced, formOf, compared, equals, matches}
+use Rattle.marking.specs.Scan.{spans, finish, scan, scanStep, scanFound, scanStart, over, overs, overWithin}
+use Rattle.block.specs.Reading.{blankLine, lineLength, blockRest, blockLength, partLength, blockHere, blocks}
+use Rattle.rows.specs.Rows.{rows, filled}
+use Rattle.row.specs.Row as definitionTable
+use Rattle.row.specs.Reading.{matchFrom}
+use Rattle.definition.specs.Reading as definition
+use Rattle.definition.specs.Reading.{definitions, paragraphs}
+use Rattle.span.specs.Row as spanTable
+use Rattle.inline.specs.CodeSpan.{countAfter, runStep, runDone, closingRun}
+use Rattle.inline.specs.Start.{pieceFrom}
+use Rattle.inline.specs.Inline.{closedAt, afterDestination, inlineOf}
+use Rattle.inline.specs.References.{labelAfter, textTail, tailOf}
+use Rattle.note.specs.Reading.{labels, rowsIn, spanRows, deepIn, firstDeep}
+use Rattle.notice.specs.declared.Reading.{Reading}
+use Rattle.notice.specs.declared.Reading.the-variants.{Read, Long, Bad, FewDefinitions, Deep, FewSpans}
+use Rattle.notice.specs.Reader.{readingOf, definitionTableOf, spanTableOf}
+
+pub record Sample : Type 0 where
+  pub note : List ℕ
+  -- the tables that are lent
+  pub definitions-lent : List ℕ
+  pub spans-lent : List ℕ
+  pub answer : Reading
+  -- the tables after the call
+  pub definitions-left : List ℕ
+  pub spans-left : List ℕ
+
+abbrev sample : List ℕ → List ℕ → List ℕ → Reading → List ℕ → List ℕ → Sample
+sample s t u r t′ u′ = record { note = s; definitions-lent = t; spans-lent = u; answer = r; definitions-left = t′; spans-left = u′ }
+
+-- both tables are left as they were
+abbrev unchanged : List ℕ → List ℕ → List ℕ → Reading → Sample
+unchanged s t u r = sample s t u r t u
+
+-- a table of so many numbers, before the call
+abbrev lent : ℕ → List ℕ
+lent n = replicate n 9
+
+-- "Whole example, 34 bytes"
+abbrev whole-example : List ℕ
+whole-example = ascii "[max]: /q2/max \"June\"\n\nUse [max].\n"
+
+-- "Definition row 1 4 7 14 16 20. Span row 5 27 32 28 31 1 7 14 16 20."
+abbrev definition-row : List ℕ
+definition-row = 1 ∷ 4 ∷ 7 ∷ 14 ∷ 16 ∷ 20 ∷ []
+
+abbrev span-row : List ℕ
+span-row = 5 ∷ 27 ∷ 32 ∷ 28 ∷ 31 ∷ 1 ∷ 7 ∷ 14 ∷ 16 ∷ 20 ∷ []
+
+-- a definition, and a paragraph with too many brackets open
+abbrev deep : List ℕ
+deep = ascii "[a]: b\n\n`c`" ++ replicate 65 91
+
+abbrev pub samples : List Sample
+samples =
+    -- exactly the rows needed; then part of a row more, and rows more
+    sample whole-example (lent 6) (lent 10) (Read 1 1) definition-row span-row
+    ∷ sample whole-example (lent 11) (lent 19) (Read 1 1) (definition-row ++ lent 5) (span-row ++ lent 9)
+    ∷ sample whole-example (lent 12) (lent 20) (Read 1 1) (definition-row ++ lent 6) (span-row ++ lent 10)
+    ∷ unchanged [] [] [] (Read 0 0)
+    -- the rows needed, where fewer whole rows are lent
+    ∷ unchanged whole-example (lent 5) (lent 10) (FewDefinitions 1)
+    ∷ sample whole-example (lent 6) (lent 9) (FewSpans 1) definition-row (lent 9)
+    ∷ unchanged (ascii "[a]: b\n[a]: c") (lent 11) [] (FewDefinitions 2)
+    ∷ unchanged (ascii "`a` `b`") [] (lent 19) (FewSpans 2)
+    -- its length, whatever the bytes
+    ∷ unchanged (replicate 32769 0) [] [] (Long 32769)
+    -- bytes 0 and 13, and ill-formed UTF-8
+    ∷ unchanged (ascii "a" ++ 0 ∷ []) [] [] (Bad 1)
+    ∷ unchanged (ascii "ab" ++ 13 ∷ 10 ∷ []) [] [] (Bad 2)
+    ∷ unchanged (195 ∷ 169 ∷ 237 ∷ 160 ∷ 128 ∷ []) [] [] (Bad 2)
+    -- 64 and 65 brackets open
+    ∷ unchanged (replicate 64 91) [] [] (Read 0 0)
+    ∷ unchanged (replicate 65 91) [] [] (Deep 64)
+    -- "The first that applies, in order 1 to 6, is the answer"
+    ∷ unchanged (whole-example ++ 13 ∷ []) [] [] (Bad 34)
+    ∷ unchanged whole-example [] [] (FewDefinitions 1)
+    ∷ unchanged deep (lent 5) [] (FewDefinitions 1)
+    ∷ sample deep (lent 6) [] (Deep 75) (1 ∷ 2 ∷ 5 ∷ 6 ∷ 0 ∷ 0 ∷ []) []
+    ∷ []
+
+-- the same notes and tables lent, as they are answered
+abbrev answered : List ℕ → List ℕ → List ℕ → Reading → Sample
+answered s t u r = sample s t u r (definitionTableOf s r t) (spanTableOf s r u)
+
+abbrev pub readOne : Sample → Sample
+readOne x =
+    answered (x .note) (x .definitions-lent) (x .spans-lent)
+    (readingOf (x .note) (definitionTable.wholeRows (x .definitions-lent)) (spanTable.wholeRows (x .spans-lent)))
+
+pub samples-hold : map readOne samples ≡ samples
+unfolding scanBytes run past leap closingStep closing table onesFrom leadingOnes sequenceLength characters rowFor starts characterLength goodLength firstBadPast firstBad checkOf
+    inky fitsAfter fits labelEnd unclosed isLabel spaceFrom depthAfter rawStep rawRun judged destinationOf closer titleOf fold spaced formOf compared equals matches
+    spans finish scan scanStep scanFound scanStart over overs overWithin blankLine lineLength blockRest blockLength partLength blockHere blocks rows filled matchFrom
+    definition.lineAfter definition.titleAfter definition.endingAfter definition.afterLabel definition.afterIndent definition.definitionAt definition.takingFrom definition.definitionsFrom
+    definition.paragraphEnd definition.paragraphFrom definition.definitionsOf definition.paragraphOf definition.definitionsIn definition.paragraphsIn definitions paragraphs
+    countAfter runStep runDone closingRun pieceFrom closedAt afterDestination inlineOf labelAfter textTail tailOf labels rowsIn spanRows deepIn firstDeep readingOf
+samples-hold = refl

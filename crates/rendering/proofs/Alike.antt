@@ -1,0 +1,85 @@
+-- The page writer's answer and tables beside the reader's.
+use Prim.Native.Nat.{ℕ, _≤_}
+use native.Mathlib.Omega.{arith}
+use mathlib.Core.Path.{_≡_, refl, sym, ap}
+use mathlib.Core.Logic.{_⊎_, inl, inr}
+use mathlib.Core.List.{List}
+use lib.Dec.{ltb}
+use Rattle.scan.specs.Test.{by}
+use Rattle.notice.specs.declared.Reading.{Reading}
+use Rattle.notice.specs.declared.Reading.the-variants.{Read, Long, Bad, FewDefinitions, Deep, FewSpans}
+use Rattle.notice.specs.Reader as reader
+use Rattle.rendering.specs.declared.Rendering.{Rendering}
+use Rattle.rendering.specs.Renderer.{numberOf, valueOf, definitionCount, spanCount, afterReading, definitionTableOf, spanTableOf}
+
+abbrev ZeroOrSix : Rendering → Type 0
+ZeroOrSix r = (numberOf r ≡ 0) ⊎ (numberOf r ≡ 6)
+
+module _ (need room : ℕ) where
+  abbrev after : Reading → Rendering
+  after = afterReading need room
+
+  -- a refusal of the reader is the page writer's
+  record Refused (x : Reading) : Type 0 where
+    low : 1 ≤ reader.numberOf x
+    high : reader.numberOf x ≤ 5
+    number : numberOf (after x) ≡ reader.numberOf x
+    value : valueOf (after x) ≡ reader.valueOf x
+
+  by-reading : {C : Type 0} (x : Reading) → ((d n : ℕ) → x ≡ Read d n → C) → (Refused x → C) → C
+  by-reading (Read d n) f g = f d n refl
+  by-reading (Long n) f g = g (record { low = omega arith; high = omega arith; number = refl; value = refl })
+  by-reading (Bad k) f g = g (record { low = omega arith; high = omega arith; number = refl; value = refl })
+  by-reading (FewDefinitions n) f g = g (record { low = omega arith; high = omega arith; number = refl; value = refl })
+  by-reading (Deep k) f g = g (record { low = omega arith; high = omega arith; number = refl; value = refl })
+  by-reading (FewSpans n) f g = g (record { low = omega arith; high = omega arith; number = refl; value = refl })
+
+  module _ (x : Reading) where
+    -- ---- where the reader refuses
+    refusal : 1 ≤ reader.numberOf x → Refused x
+    refusal h = by-reading x (λ d n e. absurd (omega (arith, ap reader.numberOf e))) (λ w. w)
+
+    pub same-number : 1 ≤ reader.numberOf x → numberOf (after x) ≡ reader.numberOf x
+    same-number h = refusal h .number
+
+    pub same-value : 1 ≤ reader.numberOf x → valueOf (after x) ≡ reader.valueOf x
+    same-value h = refusal h .value
+
+    -- ---- where it does not: the page fits, or it does not
+    read-number : {d n : ℕ} → x ≡ Read d n → ZeroOrSix (after x)
+    read-number e = rw e (by (ltb room need) (λ t. inr (rw t refl)) (λ f. inl (rw f refl)))
+
+    pub zero-or-six : reader.numberOf x ≡ 0 → ZeroOrSix (after x)
+    zero-or-six z = by-reading x (λ d n e. read-number e) (λ w. absurd (omega (arith, w .low)))
+
+    -- ---- 1 to 5 are the reader's, 0 and 6 are given where it succeeds
+    not-between : ZeroOrSix (after x) → 1 ≤ numberOf (after x) → numberOf (after x) ≤ 5 → ⊥
+    not-between (inl e) lo hi = omega (arith, e)
+    not-between (inr e) lo hi = omega (arith, e)
+
+    pub was-refused : 1 ≤ numberOf (after x) → numberOf (after x) ≤ 5 → reader.numberOf x ≡ numberOf (after x)
+    was-refused lo hi = by-reading x (λ d n e. absurd (not-between (read-number e) lo hi)) (λ w. sym (w .number))
+
+    pub was-read : ZeroOrSix (after x) → reader.numberOf x ≡ 0
+    was-read o = by-reading x (λ d n e. ap reader.numberOf e) (λ w. absurd (not-between o (omega (arith, w .low, w .number)) (omega (arith, w .high, w .number))))
+
+    -- the counts on success
+    pub same-counts : numberOf (after x) ≡ 0 → (definitionCount (after x) ≡ reader.definitionCount x) × (spanCount (after x) ≡ reader.spanCount x)
+    same-counts z = by-reading x (λ d n e. counts e) (λ w. absurd (omega (arith, w .low, w .number)))
+      where
+        counts : {d n : ℕ} → x ≡ Read d n → (definitionCount (after x) ≡ reader.definitionCount x) × (spanCount (after x) ≡ reader.spanCount x)
+        counts {d} {n} e =
+            by (ltb room need) (λ t. let q : numberOf (after x) ≡ 6 = rw (e, t) refl in absurd (omega (arith, q))) (λ f. (rw (e, f) refl, rw (e, f) refl))
+
+  -- ---- the tables
+  pub same-definitions : (s t : List ℕ) (x : Reading) → definitionTableOf s (after x) t ≡ reader.definitionTableOf s x t
+  same-definitions s t x =
+      by-reading x (λ d n e. rw e (by (ltb room need) (λ q. rw q refl) (λ q. rw q refl))) (λ w. rw (w .number) refl)
+
+  pub same-spans : (s u : List ℕ) (x : Reading) → spanTableOf s (after x) u ≡ reader.spanTableOf s x u
+  same-spans s u (Read d n) = by (ltb room need) (λ q. rw q refl) (λ q. rw q refl)
+  same-spans s u (Long n) = refl
+  same-spans s u (Bad k) = refl
+  same-spans s u (FewDefinitions n) = refl
+  same-spans s u (Deep k) = refl
+  same-spans s u (FewSpans n) = refl

@@ -1,0 +1,71 @@
+-- The answer that is read is the one that the law gives.
+use Prim.Native.Nat.{ℕ}
+use mathlib.Core.Path.{_≡_, refl, sym, ap, _∙_, subst}
+use mathlib.Core.Logic.{_↔_}
+use mathlib.Core.List.{List}
+use borrow.Author.Tests.{lt-ltb, le-ltb, ltb-true, ltb-false}
+use lib.ListN.{length}
+use lib.Dec.{ltb}
+use Rattle.scan.specs.Test.{by}
+use Rattle.page.specs.Reading.{pageOf}
+use Rattle.page.proofs.Page.{page-iff}
+use Rattle.notice.specs.declared.Reading.{Reading}
+use Rattle.notice.specs.Law as reader
+use Rattle.notice.specs.Reader.{readingOf}
+use Rattle.notice.proofs.Answers as reader-answers
+use Rattle.rendering.specs.declared.Rendering.{Rendering}
+use Rattle.rendering.specs.Law.{PageMeasured, Answers, long, bad, few-definitions, deep, few-spans, short-page, rendered}
+use Rattle.rendering.specs.Renderer.{afterReading, renderingOf}
+
+-- ---- the page that is read is the one by the law
+module _ (s : List ℕ) where
+  pub page-measured : PageMeasured s (length (pageOf s))
+  page-measured = record { page = pageOf s; page-is = page-iff s (pageOf s) .0 refl; measured = refl }
+
+  pub page-size : {size : ℕ} → PageMeasured s size → length (pageOf s) ≡ size
+  page-size w = ap length (page-iff s (w .page) .1 (w .page-is)) ∙ w .measured
+
+module _ (s : List ℕ) (d n room : ℕ) where
+  abbrev Law : Rendering → Type 0
+  Law = Answers s d n room
+
+  abbrev need : ℕ
+  need = length (pageOf s)
+
+  pub by-reader : {x : Reading} → readingOf s d n ≡ x → renderingOf s d n room ≡ afterReading need room x
+  unfolding renderingOf
+  by-reader e = ap (afterReading need room) e
+
+  -- ---- the law's answer is read
+  reads : {r : Rendering} → Law r → renderingOf s d n room ≡ r
+  reads (long w) = by-reader (reader-answers.reads s d n (reader.long w))
+  reads (bad w f) = by-reader (reader-answers.reads s d n (reader.bad w f))
+  reads (few-definitions w) = by-reader (reader-answers.reads s d n (reader.few-definitions w))
+  reads (deep w f) = by-reader (reader-answers.reads s d n (reader.deep w f))
+  reads (few-spans w) = by-reader (reader-answers.reads s d n (reader.few-spans w))
+  reads (short-page (w, v)) =
+      let e = page-size s (v .counted) in
+      by-reader (reader-answers.reads s d n (reader.read w)) ∙ rw (e, lt-ltb room (v .needed) (v .fewer)) refl
+  reads (rendered (w, v)) =
+      let e = page-size s (v .counted) in
+      by-reader (reader-answers.reads s d n (reader.read w)) ∙ rw (e, le-ltb room (v .needed) (v .enough)) refl
+
+  -- ---- what is read is the law's answer
+  here : {r : Rendering} → Law r → Law (renderingOf s d n room)
+  here a = subst Law (sym (reads a)) a
+
+  from-reader : {x : Reading} → reader.Answers s d n x → Law (renderingOf s d n room)
+  from-reader (reader.long w) = here (long w)
+  from-reader (reader.bad w f) = here (bad w f)
+  from-reader (reader.few-definitions w) = here (few-definitions w)
+  from-reader (reader.deep w f) = here (deep w f)
+  from-reader (reader.few-spans w) = here (few-spans w)
+  from-reader (reader.read w) =
+      by (ltb room need) (λ t. here (short-page (w, record { needed = need; counted = page-measured s; fewer = ltb-true room need t })))
+      (λ f. here (rendered (w, record { needed = need; counted = page-measured s; enough = ltb-false room need f })))
+
+  pub the-answer : Law (renderingOf s d n room)
+  the-answer = from-reader (reader-answers.the-answer s d n)
+
+  pub answers-iff : (r : Rendering) → (renderingOf s d n room ≡ r) ↔ Law r
+  answers-iff r = ((λ e. subst Law e the-answer), reads)

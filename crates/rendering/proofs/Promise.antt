@@ -1,0 +1,136 @@
+-- What follows from the page writer's promise: demand 1 of its answer, what the tables and the page buffer hold, that it reads as the reader does, and that no other result keeps it.
+use Prim.Native.Nat.{ℕ, _≤_}
+use native.Mathlib.Omega.{arith}
+use mathlib.Core.Path.{_≡_, refl, sym, ap, _∙_, subst}
+use mathlib.Core.Logic.{_⊎_, inl, inr}
+use mathlib.Core.List.{List}
+use borrow.Author.Tests.{eqb-true, ne-eqb}
+use lib.ListN.{length, take, drop, length-append, length-drop}
+use lib.Dec.{eqb}
+use lib.Seq.{take-at}
+use Rattle.scan.specs.Test.{by}
+use Rattle.row.specs.Row as definitionTable
+use Rattle.span.specs.Row as spanTable
+use Rattle.page.specs.Reading.{pageBy, pageOf}
+use Rattle.page.proofs.Page.{page-iff}
+use Rattle.page.proofs.ByRows.{page-by-rows}
+use Rattle.notice.specs.declared.Reading.{Reading}
+use Rattle.notice.specs.Reader as reader
+use Rattle.notice.specs.Claims.{DefinitionRows, SpanRows}
+use Rattle.notice.proofs.Promise as reader-promise
+use Rattle.rendering.specs.declared.Rendering.{Rendering}
+use Rattle.rendering.specs.Renderer.{numberOf, valueOf, definitionCount, spanCount, pageLength, afterReading, definitionTableOf, spanTableOf, pageBufferOf, Promise}
+use Rattle.rendering.specs.Claims.{Demand1, PageHolds, Buffers, Same, ReadsAlike}
+use Rattle.rendering.proofs.Alike.{same-number, same-value, same-counts, same-definitions, same-spans, zero-or-six, was-refused, was-read}
+use Rattle.rendering.proofs.Answers.{by-reader, page-size}
+use Rattle.rendering.proofs.Demand1 as answers
+
+module _ {s t u p : List ℕ} {r : Rendering} {s′ t′ u′ p′ : List ℕ} (m : Promise s t u p r s′ t′ u′ p′) where
+  abbrev definition-rows : ℕ
+  definition-rows = definitionTable.wholeRows t
+
+  abbrev span-rows : ℕ
+  span-rows = spanTable.wholeRows u
+
+  pub demand-1 : Demand1 s definition-rows span-rows (length p) r
+  demand-1 = subst (Demand1 s definition-rows span-rows (length p)) (sym (m .answer)) (answers.demand-1 s definition-rows span-rows (length p))
+
+  -- ---- beside the reader
+  abbrev need : ℕ
+  need = length (pageOf s)
+
+  abbrev x : Reading
+  x = reader.readingOf s definition-rows span-rows
+
+  by-answer : {y : Reading} → y ≡ x → r ≡ afterReading need (length p) y
+  by-answer e = m .answer ∙ by-reader s definition-rows span-rows (length p) (sym e)
+
+  -- the reader's answer, and the same tables, keep the reader's promise
+  reader-kept : reader.Promise s t u x s′ t′ u′
+  reader-kept =
+      record {
+        answer = refl;
+        definitions = m .definitions ∙ ap (λ (y : Rendering). definitionTableOf s y t) (by-answer refl) ∙ same-definitions need (length p) s t x;
+        spans = m .spans ∙ ap (λ (y : Rendering). spanTableOf s y u) (by-answer refl) ∙ same-spans need (length p) s u x;
+        note = m .note;
+      }
+
+  pub reads-alike : {y : Reading} {s₂ t₂ u₂ : List ℕ} → reader.Promise s t u y s₂ t₂ u₂ → ReadsAlike y t₂ u₂ r t′ u′
+  reads-alike {y} q =
+      let e : r ≡ afterReading need (length p) y = by-answer (q .answer) in
+      let same = reader-promise.one-answer reader-kept q in
+      record {
+        number = λ h. ap numberOf e ∙ same-number need (length p) y h;
+        value = λ h. ap valueOf e ∙ same-value need (length p) y h;
+        read = λ z. subst (λ (z : Rendering). (numberOf z ≡ 0) ⊎ (numberOf z ≡ 6)) (sym e) (zero-or-six need (length p) y z);
+        definitions-counted = λ z. ap definitionCount e ∙ same-counts need (length p) y (sym (ap numberOf e) ∙ z) .0;
+        spans-counted = λ z. ap spanCount e ∙ same-counts need (length p) y (sym (ap numberOf e) ∙ z) .1;
+        definitions = same .definitions;
+        spans = same .spans;
+      }
+
+  -- ---- the page buffer
+  untouched : 1 ≤ numberOf r → p′ ≡ p
+  untouched h = m .page ∙ rw (ne-eqb (numberOf r) 0 (λ e. omega (arith, e))) refl
+
+  page-there : numberOf r ≡ 0 → PageHolds s p p′
+  page-there z =
+      let w = demand-1 .success .exactly .0 z .1 in
+      record {
+        page = pageOf s;
+        page-is = page-iff s (pageOf s) .0 refl;
+        fits = omega (arith, page-size s (w .counted), w .enough);
+        holds = m .page ∙ rw z refl;
+      }
+
+  same-size : length p′ ≡ length p
+  same-size =
+      by (eqb (numberOf r) 0) (λ e. stays (page-there (eqb-true (numberOf r) 0 e)))
+      (λ e. let q : p′ ≡ p = m .page ∙ rw e refl in ap length q)
+    where
+      stays : PageHolds s p p′ → length p′ ≡ length p
+      stays h = ap length (h .holds) ∙ rw (length-append, length-drop) (omega (arith, h .fits))
+
+  by-rows : numberOf r ≡ 0 → (d : DefinitionRows s t t′) (v : SpanRows s u u′) → take (pageLength r) p′ ≡ pageBy s (d .paragraphs) (v .rows)
+  by-rows z d v =
+      let h = page-there z in
+      let size : length (h .page) ≡ pageLength r = sym (ap length (page-iff s (h .page) .1 (h .page-is))) ∙ page-size s (demand-1 .page-measured z) in
+      let page : pageBy s (d .paragraphs) (v .rows) ≡ h .page = page-by-rows s (d .definitions) (d .paragraphs) (v .rows) (d .note) (v .rows-are) (h .page) .1 (h .page-is) in
+      ap (take (pageLength r)) (h .holds) ∙ take-at (h .page) (drop (length (h .page)) p) (pageLength r) size ∙ sym page
+
+  -- ---- all of it
+  number-is : numberOf r ≡ numberOf (afterReading need (length p) x)
+  number-is = ap numberOf (by-answer refl)
+
+  refused : 1 ≤ numberOf r → numberOf r ≤ 5 → reader.numberOf x ≡ numberOf r
+  refused lo hi = was-refused need (length p) x (omega (arith, number-is)) (omega (arith, number-is)) ∙ sym number-is
+
+  pub buffers-hold : Buffers s t u p r t′ u′ p′
+  buffers-hold =
+      let b = reader-promise.tables-hold reader-kept in
+      record {
+        unchanged = λ lo hi. let e = refused lo (omega arith) in let (a, c) = b .unchanged (omega (arith, e)) (omega (arith, e)) in (a, c, untouched lo);
+        definitions-only = λ lo hi. let e = refused (omega arith) hi in let (a, c) = b .definitions-only (omega (arith, e)) in (a, c, untouched (omega arith));
+        tables-only = λ z. let (a, c) = b .success (was-read need (length p) x (inr (sym number-is ∙ z))) in (a, c, untouched (omega (arith, z)));
+        success = λ z. let (a, c) = b .success (was-read need (length p) x (inl (sym number-is ∙ z))) in (a, c, page-there z);
+        by-rows = by-rows;
+        definitions-size = b .definitions-size;
+        spans-size = b .spans-size;
+        page-size = same-size;
+      }
+
+  -- "for each input the promise equates what the call gives .. with a definition"
+  pub one-answer : {r₂ : Rendering} {s₂ t₂ u₂ p₂ : List ℕ} → Promise s t u p r₂ s₂ t₂ u₂ p₂ → Same r t′ u′ p′ r₂ t₂ u₂ p₂
+  one-answer q =
+      let e : r ≡ _ = m .answer ∙ sym (q .answer) in
+      record {
+        answer = e;
+        number = ap numberOf e;
+        value = ap valueOf e;
+        definitions-counted = ap definitionCount e;
+        spans-counted = ap spanCount e;
+        page-measured = ap pageLength e;
+        definitions = m .definitions ∙ ap (λ (y : Rendering). definitionTableOf s y t) e ∙ sym (q .definitions);
+        spans = m .spans ∙ ap (λ (y : Rendering). spanTableOf s y u) e ∙ sym (q .spans);
+        page = m .page ∙ ap (λ (y : Rendering). pageBufferOf s y p) e ∙ sym (q .page);
+      }

@@ -1,0 +1,101 @@
+-- What the page writer has done at each return, and that it keeps the promise. A part of the page buffer that was lent empty comes back empty, before the buffer itself.
+use Prim.Native.Nat.{ℕ, _+_, _≤_, _<_}
+use native.Mathlib.Nat.{zero-add}
+use native.Mathlib.Omega.{arith}
+use mathlib.Core.Path.{_≡_, refl, sym, ap, _∙_, subst}
+use mathlib.Core.List.{List, [], _++_}
+use borrow.Author.Tests.{lt-ltb, le-ltb}
+use lib.ListN.{length}
+use lib.Seq.{sets-eq}
+use Rattle.text.specs.Utf8.{noteLimit}
+use Rattle.row.specs.Row as definitionTable
+use Rattle.span.specs.Row as spanTable
+use Rattle.note.specs.Reading.{spanRows}
+use Rattle.note.proofs.SpanRows.{span-rows-iff}
+use Rattle.html.specs.Stored.{Writes}
+use Rattle.html.proofs.Writing.{measured}
+use Rattle.page.specs.Reading.{pageOf}
+use Rattle.writer.specs.Spanned.{Spanned}
+use Rattle.notice.specs.declared.Reading.{Reading}
+use Rattle.notice.specs.declared.Reading.the-variants as reader-variants
+use Rattle.notice.specs.Reader as reader
+use Rattle.notice.specs.Claims.{SpanRows}
+use Rattle.notice.proofs.Answers.{span-count}
+use Rattle.notice.proofs.Promise as reader-promise
+use Rattle.notice.proofs.Standing.{rows-stand}
+use Rattle.rendering.specs.declared.Rendering.{Rendering}
+use Rattle.rendering.specs.declared.Rendering.the-variants.{Rendered, Long, Bad, FewDefinitions, Deep, FewSpans, ShortPage}
+use Rattle.rendering.specs.Renderer.{afterReading, definitionTableOf, spanTableOf, pageBufferOf, Promise}
+use Rattle.rendering.proofs.Alike.{same-definitions, same-spans}
+use Rattle.rendering.proofs.Answers.{by-reader}
+
+-- a table that holds the note's span rows is one to write the page from
+pub filled-spanned : (s u : List ℕ) {u′ : List ℕ} → length s ≤ noteLimit → SpanRows s u u′ → length u′ ≡ length u → Spanned s u′ (length (spanRows s))
+filled-spanned s u {u′} h v e =
+    let n : spanRows s ≡ v .rows = span-rows-iff s (v .rows) .1 (v .rows-are) in
+    record {
+      short = h;
+      counted = refl;
+      room = rw (e, n) (v .fit);
+      rows-are = rows-stand s u v;
+    }
+
+-- the reader has answered x
+module _ (p : List ℕ) {s t u s′ t′ u′ : List ℕ} {x : Reading} (m : reader.Promise s t u x s′ t′ u′) where
+  abbrev need : ℕ
+  need = length (pageOf s)
+
+  kept : {r : Rendering} {p′ : List ℕ} → afterReading need (length p) x ≡ r → p′ ≡ pageBufferOf s r p → Promise s t u p r s′ t′ u′ p′
+  kept {r} e q =
+      record {
+        answer = sym (by-reader s (definitionTable.wholeRows t) (spanTable.wholeRows u) (length p) (sym (m .answer)) ∙ e);
+        definitions = m .definitions ∙ sym (same-definitions need (length p) s t x) ∙ ap (λ (y : Rendering). definitionTableOf s y t) e;
+        spans = m .spans ∙ sym (same-spans need (length p) s u x) ∙ ap (λ (y : Rendering). spanTableOf s y u) e;
+        page = q;
+        note = m .note;
+      }
+
+  -- ---- it has refused
+  pub too-long : {n : ℕ} → x ≡ reader-variants.Long n → Promise s t u p (Long n) s′ t′ u′ p
+  too-long e = kept (ap (afterReading need (length p)) e) refl
+
+  pub not-good : {k : ℕ} → x ≡ reader-variants.Bad k → Promise s t u p (Bad k) s′ t′ u′ p
+  not-good e = kept (ap (afterReading need (length p)) e) refl
+
+  pub too-few-definitions : {n : ℕ} → x ≡ reader-variants.FewDefinitions n → Promise s t u p (FewDefinitions n) s′ t′ u′ p
+  too-few-definitions e = kept (ap (afterReading need (length p)) e) refl
+
+  pub too-deep : {k : ℕ} → x ≡ reader-variants.Deep k → Promise s t u p (Deep k) s′ t′ u′ p
+  too-deep e = kept (ap (afterReading need (length p)) e) refl
+
+  pub too-few-spans : {n : ℕ} → x ≡ reader-variants.FewSpans n → Promise s t u p (FewSpans n) s′ t′ u′ p
+  too-few-spans e = kept (ap (afterReading need (length p)) e) refl
+
+  -- ---- it has read the note
+  module _ {d n : ℕ} (e : x ≡ reader-variants.Read d n) where
+    pub spanned : Spanned s u′ n
+    spanned =
+        let q = reader-promise.demand-1 m in
+        let z : reader.numberOf x ≡ 0 = ap reader.numberOf e in
+        let tables = reader-promise.tables-hold m in
+        let count : length (spanRows s) ≡ n = span-count s (q .spans-counted z) ∙ ap reader.spanCount e in
+        subst (Spanned s u′) count (filled-spanned s u (q .success .exactly .0 z .0 .short) (tables .success z .1) (tables .spans-size))
+
+    -- the page is measured, and nothing is stored
+    module _ {part : List ℕ} {size : ℕ} (w : Writes [] 0 (pageOf s) part size) where
+      back : part ++ p ≡ p
+      back = ap (λ (l : List ℕ). l ++ p) (measured w)
+
+      size-is : size ≡ need
+      size-is = w .size ∙ zero-add need
+
+      pub short-page : length (part ++ p) < size → Promise s t u p (ShortPage size) s′ t′ u′ (part ++ p)
+      short-page h =
+          let z : length p < need = omega (arith, ap length back, size-is) in
+          kept (rw (e, lt-ltb (length p) need z) (ap ShortPage (sym size-is))) back
+
+      pub page-written : size ≤ length (part ++ p) → {size′ : ℕ} {p′ : List ℕ} → Writes (part ++ p) 0 (pageOf s) p′ size′ → Promise s t u p (Rendered d n size) s′ t′ u′ p′
+      page-written h {p′ = p′} v =
+          let z : need ≤ length p = omega (arith, ap length back, size-is) in
+          let y : 0 + need ≤ length p = omega arith in
+          kept (rw (e, le-ltb (length p) need z) (ap (Rendered d n) (sym size-is))) (v .stored ∙ rw back (sets-eq (pageOf s) p 0 y ∙ rw (zero-add need) refl))

@@ -1,0 +1,148 @@
+-- Each return keeps the promise, by what the reader answered and what was measured and written before it.
+use borrow.Author.Needs.{needs}
+use Rattle.rendering.proofs.Returns.{too-long, not-good, too-few-definitions, too-deep, too-few-spans, spanned, short-page, page-written}
+use Rattle.rendering.proofs.render.Statement.{statement}
+use Rattle.rendering.proofs.render.Tie as tie
+
+ruleset returning = (too-long, not-good, too-few-definitions, too-deep, too-few-spans, spanned, short-page, page-written, needs)
+
+read-requires : tie.Need-read-requires
+read-requires c κs = search needs
+
+enum-known-n : tie.Need-enum-known-n
+enum-known-n c = search needs
+
+enum-known-k : tie.Need-enum-known-k
+enum-known-k c = search needs
+
+enum-known-n-2 : tie.Need-enum-known-n-2
+enum-known-n-2 c = search needs
+
+enum-known-k-2 : tie.Need-enum-known-k-2
+enum-known-k-2 c = search needs
+
+enum-known-n-3 : tie.Need-enum-known-n-3
+enum-known-n-3 c = search needs
+
+enum-known-d : tie.Need-enum-known-d
+enum-known-d c = search needs
+
+slice-relend-prefix-write-page : tie.Need-slice-relend-prefix-write-page
+slice-relend-prefix-write-page c = search needs
+
+slice-aggregate-write-page : tie.Need-slice-aggregate-write-page
+slice-aggregate-write-page c = search needs
+
+write-page-requires : tie.Need-write-page-requires
+write-page-requires c κs = search returning
+
+same-length : tie.Need-same-length
+same-length c = search needs
+
+same-length-2 : tie.Need-same-length-2
+same-length-2 c = search needs
+
+same-length-3 : tie.Need-same-length-3
+same-length-3 c = search needs
+
+returns : tie.Need-returns
+returns c = search returning
+
+write-page-requires-2 : tie.Need-write-page-requires-2
+write-page-requires-2 c κs = search returning
+
+same-length-4 : tie.Need-same-length-4
+same-length-4 c = search needs
+
+same-length-5 : tie.Need-same-length-5
+same-length-5 c = search needs
+
+returns-2 : tie.Need-returns-2
+returns-2 c = search returning
+
+same-length-6 : tie.Need-same-length-6
+same-length-6 c = search needs
+
+same-length-7 : tie.Need-same-length-7
+same-length-7 c = search needs
+
+returns-3 : tie.Need-returns-3
+returns-3 c = search returning
+
+same-length-8 : tie.Need-same-length-8
+same-length-8 c = search needs
+
+same-length-9 : tie.Need-same-length-9
+same-length-9 c = search needs
+
+returns-4 : tie.Need-returns-4
+returns-4 c = search returning
+
+same-length-10 : tie.Need-same-length-10
+same-length-10 c = search needs
+
+same-length-11 : tie.Need-same-length-11
+same-length-11 c = search needs
+
+returns-5 : tie.Need-returns-5
+returns-5 c = search returning
+
+same-length-12 : tie.Need-same-length-12
+same-length-12 c = search needs
+
+same-length-13 : tie.Need-same-length-13
+same-length-13 c = search needs
+
+returns-6 : tie.Need-returns-6
+returns-6 c = search returning
+
+same-length-14 : tie.Need-same-length-14
+same-length-14 c = search needs
+
+same-length-15 : tie.Need-same-length-15
+same-length-15 c = search needs
+
+same-length-16 : tie.Need-same-length-16
+same-length-16 c = search needs
+
+returns-7 : tie.Need-returns-7
+returns-7 c = search returning
+
+pub render-spec : {M : Type 1} → statement M
+render-spec =
+    tie.close
+    (tie.spec
+    read-requires
+    enum-known-n
+    enum-known-k
+    enum-known-n-2
+    enum-known-k-2
+    enum-known-n-3
+    enum-known-d
+    slice-relend-prefix-write-page
+    slice-aggregate-write-page
+    write-page-requires
+    same-length
+    same-length-2
+    same-length-3
+    returns
+    write-page-requires-2
+    same-length-4
+    same-length-5
+    returns-2
+    same-length-6
+    same-length-7
+    returns-3
+    same-length-8
+    same-length-9
+    returns-4
+    same-length-10
+    same-length-11
+    returns-5
+    same-length-12
+    same-length-13
+    returns-6
+    same-length-14
+    same-length-15
+    same-length-16
+    returns-7)

@@ -1,0 +1,87 @@
+-- What is claimed of the page writer's answer and of what it leaves in the tables and the page buffer, for every note and whatever is lent.
+use Prim.Native.Nat.{ℕ, _≤_}
+use mathlib.Core.Path.{_≡_}
+use mathlib.Core.Logic.{_↔_, _⊎_}
+use mathlib.Core.List.{List, _++_}
+use lib.ListN.{length, take, drop}
+use Rattle.text.specs.Utf8.{FirstBad}
+use Rattle.note.specs.Note.{FirstDeep}
+use Rattle.page.specs.Page.{PageIs}
+use Rattle.page.specs.Reading.{pageBy}
+use Rattle.notice.specs.declared.Reading.{Reading}
+use Rattle.notice.specs.Law.{DefinitionsCounted, SpansCounted, Due1, Due2, Due3, Due4, Due5}
+use Rattle.notice.specs.Reader as reader
+use Rattle.notice.specs.Claims.{DefinitionRows, SpanRows}
+use Rattle.rendering.specs.declared.Rendering.{Rendering}
+use Rattle.rendering.specs.Law.{PageMeasured, Due0, Due6, Answers}
+use Rattle.rendering.specs.Renderer.{numberOf, valueOf, definitionCount, spanCount, pageLength}
+
+-- a line of the table: r has this number "exactly when" `When` holds, and then `Value` holds of what is "Returned with it"
+pub record Given (r : Rendering) (number : ℕ) (When : Type 0) (Value : ℕ → Type 0) : Type 0 where
+  pub exactly : (numberOf r ≡ number) ↔ When
+  pub value : When → Value (valueOf r)
+
+-- Demand 1 of the answer r to the note s, where so many whole rows of each table and so many bytes are lent.
+pub record Demand1 (s : List ℕ) (definition-rows span-rows room : ℕ) (r : Rendering) : Type 0 where
+  pub line-1 : Given r 1 (Due1 s definition-rows span-rows) (λ v. v ≡ length s)
+  pub line-2 : Given r 2 (Due2 s definition-rows span-rows) (FirstBad s)
+  pub line-3 : Given r 3 (Due3 s definition-rows span-rows) (DefinitionsCounted s)
+  pub line-4 : Given r 4 (Due4 s definition-rows span-rows) (FirstDeep s)
+  pub line-5 : Given r 5 (Due5 s definition-rows span-rows) (SpansCounted s)
+  pub line-6 : Given r 6 (Due6 s definition-rows span-rows room) (PageMeasured s)
+  -- "Success is number 0 with the counts of definitions and spans, from the page writer also the HTML's length."
+  pub success : Given r 0 (Due0 s definition-rows span-rows room) (λ v. v ≡ 0)
+  pub definitions-counted : numberOf r ≡ 0 → DefinitionsCounted s (definitionCount r)
+  pub spans-counted : numberOf r ≡ 0 → SpansCounted s (spanCount r)
+  pub page-measured : numberOf r ≡ 0 → PageMeasured s (pageLength r)
+  -- all of it at once
+  pub answers : (x : Rendering) → (r ≡ x) ↔ Answers s definition-rows span-rows room x
+
+-- ---- what was lent
+-- the page buffer p has become p′
+pub record PageHolds (s p p′ : List ℕ) : Type 0 where
+  pub page : List ℕ
+  pub page-is : PageIs s page
+  pub fits : length page ≤ length p
+  -- "bytes past the part in use are unchanged"
+  pub holds : p′ ≡ page ++ drop (length page) p
+
+-- what the tables t and u and the page buffer p hold after the answer r
+pub record Buffers (s t u p : List ℕ) (r : Rendering) (t′ u′ p′ : List ℕ) : Type 0 where
+  -- "After 1, 2, 3 all lent memory is unchanged."
+  pub unchanged : 1 ≤ numberOf r → numberOf r ≤ 3 → (t′ ≡ t) × (u′ ≡ u) × (p′ ≡ p)
+  -- "After 4 or 5 the definition table holds its rows and the span table is unchanged."
+  pub definitions-only : 4 ≤ numberOf r → numberOf r ≤ 5 → DefinitionRows s t t′ × (u′ ≡ u) × (p′ ≡ p)
+  -- "After 6 both tables hold their rows and the page buffer is unchanged."
+  pub tables-only : numberOf r ≡ 6 → DefinitionRows s t t′ × SpanRows s u u′ × (p′ ≡ p)
+  pub success : numberOf r ≡ 0 → DefinitionRows s t t′ × SpanRows s u u′ × PageHolds s p p′
+  -- the page is the one that the note's paragraphs and the rows that stand in the span table call for
+  pub by-rows : numberOf r ≡ 0 → (d : DefinitionRows s t t′) (v : SpanRows s u u′) → take (pageLength r) p′ ≡ pageBy s (d .paragraphs) (v .rows)
+  -- nothing that was lent grows or shrinks
+  pub definitions-size : length t′ ≡ length t
+  pub spans-size : length u′ ≡ length u
+  pub page-size : length p′ ≡ length p
+
+-- two results of one call are equal in every number and byte
+pub record Same (r : Rendering) (t′ u′ p′ : List ℕ) (r₂ : Rendering) (t₂ u₂ p₂ : List ℕ) : Type 0 where
+  pub answer : r ≡ r₂
+  pub number : numberOf r ≡ numberOf r₂
+  pub value : valueOf r ≡ valueOf r₂
+  pub definitions-counted : definitionCount r ≡ definitionCount r₂
+  pub spans-counted : spanCount r ≡ spanCount r₂
+  pub page-measured : pageLength r ≡ pageLength r₂
+  pub definitions : t′ ≡ t₂
+  pub spans : u′ ≡ u₂
+  pub page : p′ ≡ p₂
+
+-- "the reader gives 1 to 5, the page writer 1 to 6": the page writer's answer r and tables t′ and u′ beside the reader's, x, t₂ and u₂, for the same note and tables
+pub record ReadsAlike (x : Reading) (t₂ u₂ : List ℕ) (r : Rendering) (t′ u′ : List ℕ) : Type 0 where
+  -- the reader's refusals are the page writer's, and where the reader succeeds the page writer gives 0 or 6
+  pub number : 1 ≤ reader.numberOf x → numberOf r ≡ reader.numberOf x
+  pub value : 1 ≤ reader.numberOf x → valueOf r ≡ reader.valueOf x
+  pub read : reader.numberOf x ≡ 0 → (numberOf r ≡ 0) ⊎ (numberOf r ≡ 6)
+  pub definitions-counted : numberOf r ≡ 0 → definitionCount r ≡ reader.definitionCount x
+  pub spans-counted : numberOf r ≡ 0 → spanCount r ≡ reader.spanCount x
+  -- after every answer, 6 too
+  pub definitions : t′ ≡ t₂
+  pub spans : u′ ≡ u₂

@@ -1,0 +1,4 @@
+pub mod Law
+pub mod Renderer
+pub mod Claims
+pub mod Samples

@@ -1,0 +1,113 @@
+-- The whole example of document 01 and the empty note, by computation: answers, tables and pages.
+use Prim.Native.Nat.{ℕ}
+use mathlib.Core.Path.{_≡_, refl}
+use mathlib.Core.List.{List, [], _∷_, _++_, map, flatMap}
+use lib.ListN.{length, replicate}
+use Rattle.scan.specs.Ascii.{ascii}
+use Rattle.scan.specs.Scan.{scan as scanBytes, run, past}
+use Rattle.scan.specs.Leap.{leap}
+use Rattle.scan.specs.Closing.{closingStep, closing}
+use Rattle.text.specs.Utf8.{table}
+use Rattle.text.specs.Reading.{onesFrom, leadingOnes, sequenceLength, characters, rowFor, starts, characterLength, goodLength, firstBadPast, firstBad, checkOf}
+use Rattle.label.specs.Reading.{inky, fitsAfter, fits, labelEnd, unclosed, isLabel}
+use Rattle.target.specs.Reading.{spaceFrom, depthAfter, rawStep, rawRun, judged, destinationOf, closer, titleOf}
+use Rattle.matching.specs.Form.{fold}
+use Rattle.matching.specs.Reading.{spaced, formOf, compared, equals, matches}
+use Rattle.marking.specs.Scan.{spans, overWithin, overs, over, finish, scan, scanStep, scanFound, scanStart}
+use Rattle.block.specs.Reading.{blankLine, lineLength, blockRest, blockLength, partLength, blockHere, blocks}
+use Rattle.rows.specs.Rows
+use Rattle.row.specs.Row as definitionTable
+use Rattle.row.specs.Reading.{matchFrom}
+use Rattle.definition.specs.Reading as definition
+use Rattle.span.specs.Row as spanTable
+use Rattle.inline.specs.CodeSpan.{countAfter, runStep, runDone, closingRun}
+use Rattle.inline.specs.Start.{pieceFrom}
+use Rattle.inline.specs.Inline.{closedAt, afterDestination, inlineOf}
+use Rattle.inline.specs.References.{labelAfter, textTail, tailOf}
+use Rattle.note.specs.Reading.{labels, rowsIn, spanRows, deepIn, firstDeep}
+use Rattle.html.specs.Page.{escaped, stays, hexDigit, hrefByte}
+use Rattle.html.specs.Reading.{undone, margin, titleAttribute, linkOpen}
+use Rattle.page.specs.Reading.{firstRow, writtenBy, contentFrom, paragraphPage, pageBy, pageOf}
+use Rattle.notice.specs.Reader.{readingOf}
+use Rattle.rendering.specs.declared.Rendering.{Rendering}
+use Rattle.rendering.specs.declared.Rendering.the-variants.{Rendered, FewDefinitions, FewSpans, ShortPage}
+use Rattle.rendering.specs.Renderer.{renderingOf, definitionTableOf, spanTableOf, pageBufferOf}
+
+-- a note and what is lent; the answer, and what then stands in the tables and the page buffer
+pub record Sample : Type 0 where
+  pub note : List ℕ
+  pub lent-definitions : List ℕ
+  pub lent-spans : List ℕ
+  pub lent-page : List ℕ
+  pub answer : Rendering
+  pub definitions : List ℕ
+  pub spans : List ℕ
+  pub page : List ℕ
+
+-- n numbers that stand there before
+abbrev old : ℕ → List ℕ
+old n = replicate n 9
+
+-- tables of a and b numbers and a page buffer of n bytes
+abbrev sample : List ℕ → ℕ → ℕ → ℕ → Rendering → List ℕ → List ℕ → List ℕ → Sample
+sample s a b n r t u p =
+    record { note = s; lent-definitions = old a; lent-spans = old b; lent-page = old n; answer = r; definitions = t; spans = u; page = p }
+
+-- "Whole example, 34 bytes"
+abbrev example : List ℕ
+example = ascii "[max]: /q2/max \"June\"\n\nUse [max].\n"
+
+-- "Definition row 1 4 7 14 16 20."
+abbrev definitionRow : List ℕ
+definitionRow = 1 ∷ 4 ∷ 7 ∷ 14 ∷ 16 ∷ 20 ∷ []
+
+-- "Span row 5 27 32 28 31 1 7 14 16 20."
+abbrev spanRow : List ℕ
+spanRow = 5 ∷ 27 ∷ 32 ∷ 28 ∷ 31 ∷ 1 ∷ 7 ∷ 14 ∷ 16 ∷ 20 ∷ []
+
+-- "Page `<p>Use <a href="/q2/max" title="June">max</a>.</p>` and LF."
+abbrev html : List ℕ
+html = ascii "<p>Use <a href=\"/q2/max\" title=\"June\">max</a>.</p>\n"
+
+abbrev pub samples : List Sample
+samples =
+    -- exactly as much as is needed; one byte less; one byte more
+    sample example 6 10 51 (Rendered 1 1 51) definitionRow spanRow html
+    ∷ sample example 6 10 50 (ShortPage 51) definitionRow spanRow (old 50)
+    ∷ sample example 7 11 52 (Rendered 1 1 51) (definitionRow ++ 9 ∷ []) (spanRow ++ 9 ∷ []) (html ++ 9 ∷ [])
+    -- refusals 3 and 5 come before 6
+    ∷ sample example 5 9 0 (FewDefinitions 1) (old 5) (old 9) []
+    ∷ sample example 6 9 0 (FewSpans 1) definitionRow (old 9) []
+    ∷ sample example 6 10 0 (ShortPage 51) definitionRow spanRow []
+    -- the empty note with an empty page
+    ∷ sample [] 0 0 0 (Rendered 0 0 0) [] [] []
+    ∷ sample [] 1 1 1 (Rendered 0 0 0) (old 1) (old 1) (old 1)
+    ∷ []
+
+abbrev answerTo : Sample → Rendering
+answerTo x = renderingOf (x .note) (definitionTable.wholeRows (x .lent-definitions)) (spanTable.wholeRows (x .lent-spans)) (length (x .lent-page))
+
+-- the same notes with what was lent, as the page writer answers
+abbrev pub rendered : Sample → Sample
+rendered x =
+    let r = answerTo x in
+    record {
+      note = x .note;
+      lent-definitions = x .lent-definitions;
+      lent-spans = x .lent-spans;
+      lent-page = x .lent-page;
+      answer = r;
+      definitions = definitionTableOf (x .note) r (x .lent-definitions);
+      spans = spanTableOf (x .note) r (x .lent-spans);
+      page = pageBufferOf (x .note) r (x .lent-page);
+    }
+
+pub samples-hold : map rendered samples ≡ samples
+unfolding scanBytes run past leap closingStep closing onesFrom leadingOnes sequenceLength characters table rowFor starts characterLength goodLength firstBadPast firstBad checkOf
+    inky fitsAfter fits labelEnd unclosed isLabel spaceFrom depthAfter rawStep rawRun judged destinationOf closer titleOf fold spaced formOf compared equals matches
+    spans overWithin overs over finish scan scanStep scanFound scanStart blankLine lineLength blockRest blockLength partLength blockHere blocks Rows.rows Rows.filled matchFrom
+    definition.lineAfter definition.titleAfter definition.endingAfter definition.afterLabel definition.afterIndent definition.definitionAt definition.takingFrom definition.definitionsFrom
+    definition.paragraphEnd definition.paragraphFrom definition.definitionsOf definition.paragraphOf definition.definitionsIn definition.paragraphsIn definition.definitions definition.paragraphs
+    countAfter runStep runDone closingRun pieceFrom closedAt afterDestination inlineOf labelAfter textTail tailOf labels rowsIn spanRows deepIn firstDeep
+    flatMap escaped stays hexDigit hrefByte undone margin titleAttribute linkOpen firstRow writtenBy contentFrom paragraphPage pageBy pageOf readingOf renderingOf
+samples-hold = refl

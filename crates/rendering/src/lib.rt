@@ -1,0 +1,111 @@
+// The page writer: a note's HTML.
+ghost use mathlib.Core.Path.{_≡_};
+ghost use Rattle.rendering.specs.Renderer.{numberOf, valueOf, definitionCount, spanCount, pageLength, Promise};
+use notice::Reading;
+
+// What the page writer answers: the counts of definitions and spans and the HTML's length, or a refusal with its value.
+pub enum Rendering {
+    Rendered(usize, usize, usize),
+    Long(usize),
+    Bad(usize),
+    FewDefinitions(usize),
+    Deep(usize),
+    FewSpans(usize),
+    ShortPage(usize),
+}
+
+// The answer's number.
+pub fn number(r: Rendering) -> u64
+    ensures { λ n. ⌜ n ≡ numberOf r ⌝ }
+{
+    match r {
+        Rendering::Rendered(_, _, _) => 0,
+        Rendering::Long(_) => 1,
+        Rendering::Bad(_) => 2,
+        Rendering::FewDefinitions(_) => 3,
+        Rendering::Deep(_) => 4,
+        Rendering::FewSpans(_) => 5,
+        Rendering::ShortPage(_) => 6,
+    }
+}
+
+// What is returned with the number.
+pub fn value(r: Rendering) -> u64
+    ensures { λ n. ⌜ n ≡ valueOf r ⌝ }
+{
+    match r {
+        Rendering::Rendered(_, _, _) => 0,
+        Rendering::Long(length) => length as u64,
+        Rendering::Bad(place) => place as u64,
+        Rendering::FewDefinitions(rows) => rows as u64,
+        Rendering::Deep(place) => place as u64,
+        Rendering::FewSpans(rows) => rows as u64,
+        Rendering::ShortPage(bytes) => bytes as u64,
+    }
+}
+
+// On success the number of definitions, else 0.
+pub fn definition_count(r: Rendering) -> u64
+    ensures { λ n. ⌜ n ≡ definitionCount r ⌝ }
+{
+    match r {
+        Rendering::Rendered(definitions, _, _) => definitions as u64,
+        Rendering::Long(_) => 0,
+        Rendering::Bad(_) => 0,
+        Rendering::FewDefinitions(_) => 0,
+        Rendering::Deep(_) => 0,
+        Rendering::FewSpans(_) => 0,
+        Rendering::ShortPage(_) => 0,
+    }
+}
+
+// On success the number of spans, else 0.
+pub fn span_count(r: Rendering) -> u64
+    ensures { λ n. ⌜ n ≡ spanCount r ⌝ }
+{
+    match r {
+        Rendering::Rendered(_, spans, _) => spans as u64,
+        Rendering::Long(_) => 0,
+        Rendering::Bad(_) => 0,
+        Rendering::FewDefinitions(_) => 0,
+        Rendering::Deep(_) => 0,
+        Rendering::FewSpans(_) => 0,
+        Rendering::ShortPage(_) => 0,
+    }
+}
+
+// On success the HTML's length, else 0.
+pub fn page_length(r: Rendering) -> u64
+    ensures { λ n. ⌜ n ≡ pageLength r ⌝ }
+{
+    match r {
+        Rendering::Rendered(_, _, length) => length as u64,
+        Rendering::Long(_) => 0,
+        Rendering::Bad(_) => 0,
+        Rendering::FewDefinitions(_) => 0,
+        Rendering::Deep(_) => 0,
+        Rendering::FewSpans(_) => 0,
+        Rendering::ShortPage(_) => 0,
+    }
+}
+
+// Writes a note's page: fills the two tables and the page buffer that are lent, or refuses.
+pub fn render(note: &[u8], definitions: &mut [u32], spans: &mut [u32], page: &mut [u8]) -> Rendering
+    ensures { λ r. ⌜ Promise (now (note .entry)) (now (definitions .entry)) (now (spans .entry)) (now (page .entry)) r (now (note .exit)) (now (definitions .exit)) (now (spans .exit)) (now (page .exit)) ⌝ }
+{
+    match notice::read(note, definitions, spans) {
+        Reading::Long(n) => Rendering::Long(n),
+        Reading::Bad(k) => Rendering::Bad(k),
+        Reading::FewDefinitions(n) => Rendering::FewDefinitions(n),
+        Reading::Deep(k) => Rendering::Deep(k),
+        Reading::FewSpans(n) => Rendering::FewSpans(n),
+        Reading::Read(d, n) => {
+            let need = writer::write_page(note, spans, n, &mut page[..0]);
+            if page.len() < need {
+                return Rendering::ShortPage(need);
+            }
+            writer::write_page(note, spans, n, page);
+            Rendering::Rendered(d, n, need)
+        }
+    }
+}

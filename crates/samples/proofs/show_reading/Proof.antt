@@ -1,0 +1,63 @@
+-- A part that lies within has the length asked for.
+use borrow.Author.Needs.{needs}
+use native.Mathlib.Omega.{arith}
+use lib.ListN.{length-take}
+use Rattle.samples.proofs.show_reading.Statement.{statement}
+use Rattle.samples.proofs.show_reading.Tie as tie
+
+definition-table-requires : tie.Need-definition-table-requires
+definition-table-requires c κs = search needs
+
+span-table-requires : tie.Need-span-table-requires
+span-table-requires c κs = search needs
+
+array-borrow-prefix-definition-room : tie.Need-array-borrow-prefix-definition-room
+array-borrow-prefix-definition-room c = search needs
+
+slice-aggregate-definitions : tie.Need-slice-aggregate-definitions
+slice-aggregate-definitions c = simp length-take (omega arith)
+
+array-borrow-prefix-span-room : tie.Need-array-borrow-prefix-span-room
+array-borrow-prefix-span-room c = search needs
+
+slice-aggregate-spans : tie.Need-slice-aggregate-spans
+slice-aggregate-spans c = simp length-take (omega arith)
+
+read-requires : tie.Need-read-requires
+read-requires c κs = search needs
+
+reading-requires : tie.Need-reading-requires
+reading-requires c κs = search needs
+
+slice-aggregate-rows : tie.Need-slice-aggregate-rows
+slice-aggregate-rows c = search needs
+
+rows-requires : tie.Need-rows-requires
+rows-requires c κs = search needs
+
+slice-aggregate-rows-2 : tie.Need-slice-aggregate-rows-2
+slice-aggregate-rows-2 c = search needs
+
+rows-requires-2 : tie.Need-rows-requires-2
+rows-requires-2 c κs = search needs
+
+returns : tie.Need-returns
+returns c = search needs
+
+pub show-reading-spec : {M : Type 1} → statement M
+show-reading-spec =
+    tie.close
+    (tie.spec
+    definition-table-requires
+    span-table-requires
+    array-borrow-prefix-definition-room
+    slice-aggregate-definitions
+    array-borrow-prefix-span-room
+    slice-aggregate-spans
+    read-requires
+    reading-requires
+    slice-aggregate-rows
+    rows-requires
+    slice-aggregate-rows-2
+    rows-requires-2
+    returns)

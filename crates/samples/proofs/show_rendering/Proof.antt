@@ -1,0 +1,71 @@
+-- A part that lies within has the length asked for.
+use borrow.Author.Needs.{needs}
+use native.Mathlib.Omega.{arith}
+use lib.ListN.{length-take}
+use Rattle.samples.proofs.show_rendering.Statement.{statement}
+use Rattle.samples.proofs.show_rendering.Tie as tie
+
+definition-table-requires : tie.Need-definition-table-requires
+definition-table-requires c κs = search needs
+
+span-table-requires : tie.Need-span-table-requires
+span-table-requires c κs = search needs
+
+page-buffer-requires : tie.Need-page-buffer-requires
+page-buffer-requires c κs = search needs
+
+array-borrow-prefix-definition-room : tie.Need-array-borrow-prefix-definition-room
+array-borrow-prefix-definition-room c = search needs
+
+slice-aggregate-definitions : tie.Need-slice-aggregate-definitions
+slice-aggregate-definitions c = simp length-take (omega arith)
+
+array-borrow-prefix-span-room : tie.Need-array-borrow-prefix-span-room
+array-borrow-prefix-span-room c = search needs
+
+slice-aggregate-spans : tie.Need-slice-aggregate-spans
+slice-aggregate-spans c = simp length-take (omega arith)
+
+array-borrow-prefix-page-room : tie.Need-array-borrow-prefix-page-room
+array-borrow-prefix-page-room c = search needs
+
+slice-aggregate-page : tie.Need-slice-aggregate-page
+slice-aggregate-page c = simp length-take (omega arith)
+
+render-requires : tie.Need-render-requires
+render-requires c κs = search needs
+
+rendering-requires : tie.Need-rendering-requires
+rendering-requires c κs = search needs
+
+text-requires : tie.Need-text-requires
+text-requires c κs = search needs
+
+slice-aggregate-text : tie.Need-slice-aggregate-text
+slice-aggregate-text c = search needs
+
+text-requires-2 : tie.Need-text-requires-2
+text-requires-2 c κs = search needs
+
+returns : tie.Need-returns
+returns c = search needs
+
+pub show-rendering-spec : {M : Type 1} → statement M
+show-rendering-spec =
+    tie.close
+    (tie.spec
+    definition-table-requires
+    span-table-requires
+    page-buffer-requires
+    array-borrow-prefix-definition-room
+    slice-aggregate-definitions
+    array-borrow-prefix-span-room
+    slice-aggregate-spans
+    array-borrow-prefix-page-room
+    slice-aggregate-page
+    render-requires
+    rendering-requires
+    text-requires
+    slice-aggregate-text
+    text-requires-2
+    returns)

@@ -1,0 +1,174 @@
+/* Runs the entries of notice.h on the whole example of document 01, on every refusal and on empty buffers, and compares each
+ * number and all lent memory with what document 01 says. Writes "ok", or what differs, and then exits with 1. */
+#include "notice.h"
+
+#include <stdio.h>
+#include <string.h>
+
+/* What each lent number holds before a call: no place, kind or count of the notes here. */
+#define GUARD 99999
+
+#define DEFINITIONS 8
+#define SPANS 13
+#define PAGE 54
+
+/* What each byte of a page holds before a call: no byte of the example's page. */
+#define GUARD_BYTE 7
+
+static const char EXAMPLE[] = "[max]: /q2/max \"June\"\n\nUse [max].\n";
+static const uint32_t DEFINITION_ROW[NOTICE_DEFINITION_WIDTH] = {1, 4, 7, 14, 16, 20};
+static const uint32_t SPAN_ROW[NOTICE_SPAN_WIDTH] = {NOTICE_SHORTCUT, 27, 32, 28, 31, 1, 7, 14, 16, 20};
+static const char HTML[] = "<p>Use <a href=\"/q2/max\" title=\"June\">max</a>.</p>\n";
+
+static uint8_t room[NOTICE_LIMIT + 1];
+static int failures = 0;
+
+static void same(const char *what, const char *which, uint64_t got, uint64_t wanted) {
+    if (got != wanted) {
+        printf("%s: %s is %llu, not %llu\n", what, which, (unsigned long long)got, (unsigned long long)wanted);
+        failures++;
+    }
+}
+
+static void same_answer(const char *what, const uint64_t *got, uint64_t a, uint64_t b, uint64_t c) {
+    same(what, "answer[0]", got[0], a);
+    same(what, "answer[1]", got[1], b);
+    same(what, "answer[2]", got[2], c);
+}
+
+/* The table starts with the row, or with none where `row` is NULL; every other number is the guard. */
+static void same_table(const char *what, const char *which, const uint32_t *table, size_t size, const uint32_t *row, size_t width) {
+    size_t i;
+    for (i = 0; i < size; i++) {
+        same(what, which, table[i], row != NULL && i < width ? row[i] : GUARD);
+    }
+}
+
+static void guard(uint32_t *table, size_t size) {
+    size_t i;
+    for (i = 0; i < size; i++) {
+        table[i] = GUARD;
+    }
+}
+
+/* Reads `size` bytes of `note` with so many numbers of each table lent. `defined` and `spanned`: whether the table then has the
+ * row of the whole example. */
+static void read_case(const char *what, const uint8_t *note, size_t size, size_t definitions_len, size_t spans_len, uint32_t number,
+                      uint64_t value, uint64_t counted, uint64_t spans_counted, int defined, int spanned) {
+    uint32_t definitions[DEFINITIONS];
+    uint32_t spans[SPANS];
+    uint64_t answer[4] = {GUARD, GUARD, GUARD, GUARD};
+    guard(definitions, DEFINITIONS);
+    guard(spans, SPANS);
+    same(what, "the number",
+         notice_read(note, size, definitions_len == 0 ? NULL : definitions, definitions_len, spans_len == 0 ? NULL : spans, spans_len,
+                     answer),
+         number);
+    same_answer(what, answer, value, counted, spans_counted);
+    same(what, "the number after the answer", answer[3], GUARD);
+    same_table(what, "the definition table", definitions, DEFINITIONS, defined ? DEFINITION_ROW : NULL, NOTICE_DEFINITION_WIDTH);
+    same_table(what, "the span table", spans, SPANS, spanned ? SPAN_ROW : NULL, NOTICE_SPAN_WIDTH);
+}
+
+/* The same with so many bytes of a page lent. `paged`: whether the page then has the HTML of the whole example. */
+static void render_case(const char *what, const uint8_t *note, size_t size, size_t definitions_len, size_t spans_len, size_t page_len,
+                        uint32_t number, uint64_t value, const uint64_t *counted, int defined, int spanned, int paged) {
+    uint32_t definitions[DEFINITIONS];
+    uint32_t spans[SPANS];
+    uint8_t page[PAGE];
+    uint64_t answer[5] = {GUARD, GUARD, GUARD, GUARD, GUARD};
+    size_t i;
+    guard(definitions, DEFINITIONS);
+    guard(spans, SPANS);
+    memset(page, GUARD_BYTE, PAGE);
+    same(what, "the number",
+         notice_render(note, size, definitions_len == 0 ? NULL : definitions, definitions_len, spans_len == 0 ? NULL : spans, spans_len,
+                       page_len == 0 ? NULL : page, page_len, answer),
+         number);
+    same_answer(what, answer, value, counted[0], counted[1]);
+    same(what, "answer[3]", answer[3], counted[2]);
+    same(what, "the number after the answer", answer[4], GUARD);
+    same_table(what, "the definition table", definitions, DEFINITIONS, defined ? DEFINITION_ROW : NULL, NOTICE_DEFINITION_WIDTH);
+    same_table(what, "the span table", spans, SPANS, spanned ? SPAN_ROW : NULL, NOTICE_SPAN_WIDTH);
+    for (i = 0; i < PAGE; i++) {
+        same(what, "the page", page[i], paged && i < sizeof HTML - 1 ? (uint8_t)HTML[i] : GUARD_BYTE);
+    }
+}
+
+static void resolve_case(const char *what, const uint8_t *note, size_t size, const char *label, size_t label_len, uint32_t number,
+                         uint64_t value, uint64_t start, uint64_t end) {
+    uint64_t answer[4] = {GUARD, GUARD, GUARD, GUARD};
+    same(what, "the number", notice_resolve(note, size, (const uint8_t *)label, label_len, answer), number);
+    same_answer(what, answer, value, start, end);
+    same(what, "the number after the answer", answer[3], GUARD);
+}
+
+static void read_cases(const uint8_t *example, size_t size) {
+    static const uint8_t bad[] = {'a', 0xc3, 0xa9, 0xc3};
+    read_case("exactly the rows needed", example, size, 6, 10, NOTICE_OK, 0, 1, 1, 1, 1);
+    read_case("more than the rows needed", example, size, DEFINITIONS, SPANS, NOTICE_OK, 0, 1, 1, 1, 1);
+    read_case("no definition row", example, size, 0, 10, NOTICE_FEW_DEFINITION_ROWS, 1, 0, 0, 0, 0);
+    read_case("part of a definition row", example, size, 5, 0, NOTICE_FEW_DEFINITION_ROWS, 1, 0, 0, 0, 0);
+    read_case("no span row", example, size, 6, 0, NOTICE_FEW_SPAN_ROWS, 1, 0, 0, 1, 0);
+    read_case("part of a span row", example, size, DEFINITIONS, 9, NOTICE_FEW_SPAN_ROWS, 1, 0, 0, 1, 0);
+    read_case("no note", NULL, 0, 0, 0, NOTICE_OK, 0, 0, 0, 0, 0);
+    read_case("bad text", bad, sizeof bad, 6, 10, NOTICE_BAD_TEXT, 3, 0, 0, 0, 0);
+    memset(room, 'a', sizeof room);
+    read_case("the longest note", room, NOTICE_LIMIT, 0, 0, NOTICE_OK, 0, 0, 0, 0, 0);
+    read_case("a note too long", room, sizeof room, 6, 10, NOTICE_TOO_LONG, sizeof room, 0, 0, 0, 0);
+    memset(room, '[', sizeof room);
+    read_case("64 brackets", room, NOTICE_DEPTH, 0, 0, NOTICE_OK, 0, 0, 0, 0, 0);
+    read_case("65 brackets", room, NOTICE_DEPTH + 1, 6, 10, NOTICE_TOO_DEEP, NOTICE_DEPTH, 0, 0, 0, 0);
+    memcpy(room, example, size);
+    read_case("a definition, and 65 brackets", room, size + NOTICE_DEPTH + 1, 6, 10, NOTICE_TOO_DEEP, size + NOTICE_DEPTH, 0, 0, 1, 0);
+}
+
+static void render_cases(const uint8_t *example, size_t size) {
+    static const uint64_t none[] = {0, 0, 0};
+    static const uint64_t one[] = {1, 1, sizeof HTML - 1};
+    static const uint8_t bad[] = {'a', 13};
+    same("the page", "its length", sizeof HTML - 1, 51);
+    render_case("a page of exactly its length", example, size, 6, 10, 51, NOTICE_OK, 0, one, 1, 1, 1);
+    render_case("a page with bytes to spare", example, size, DEFINITIONS, SPANS, PAGE, NOTICE_OK, 0, one, 1, 1, 1);
+    render_case("a page a byte short", example, size, 6, 10, 50, NOTICE_SHORT_PAGE, 51, none, 1, 1, 0);
+    render_case("no page", example, size, DEFINITIONS, SPANS, 0, NOTICE_SHORT_PAGE, 51, none, 1, 1, 0);
+    render_case("a page, no span row", example, size, 6, 9, PAGE, NOTICE_FEW_SPAN_ROWS, 1, none, 1, 0, 0);
+    render_case("a page, no definition row", example, size, 5, 10, PAGE, NOTICE_FEW_DEFINITION_ROWS, 1, none, 0, 0, 0);
+    render_case("no note, no page", NULL, 0, 0, 0, 0, NOTICE_OK, 0, none, 0, 0, 0);
+    render_case("a page, bad text", bad, sizeof bad, 6, 10, PAGE, NOTICE_BAD_TEXT, 1, none, 0, 0, 0);
+    memset(room, '[', sizeof room);
+    render_case("a page, a note too long", room, sizeof room, 6, 10, PAGE, NOTICE_TOO_LONG, sizeof room, none, 0, 0, 0);
+    render_case("a page, 65 brackets", room, NOTICE_DEPTH + 1, 6, 10, PAGE, NOTICE_TOO_DEEP, NOTICE_DEPTH, none, 0, 0, 0);
+}
+
+static void resolve_cases(const uint8_t *example, size_t size) {
+    static const uint8_t empty[] = "[a]: <>";
+    resolve_case("max", example, size, "max", 3, NOTICE_OK, 7, 7, 14);
+    resolve_case("a label that is a part of the note", example, size, (const char *)example + 1, 3, NOTICE_OK, 7, 7, 14);
+    resolve_case("\\n MAX", example, size, "\n MAX", 5, NOTICE_OK, 7, 7, 14);
+    resolve_case("min", example, size, "min", 3, NOTICE_UNDEFINED, 0, 0, 0);
+    resolve_case("no bytes", example, size, NULL, 0, NOTICE_NO_LABEL, 0, 0, 0);
+    resolve_case("[max]", example, size, "[max]", 5, NOTICE_NO_LABEL, 0, 0, 0);
+    resolve_case("no note", NULL, 0, "max", 3, NOTICE_UNDEFINED, 0, 0, 0);
+    resolve_case("an empty destination", empty, 7, "a", 1, NOTICE_OK, 6, 6, 6);
+    resolve_case("byte 0", empty, sizeof empty, "a", 1, NOTICE_BAD_TEXT, 7, 0, 0);
+    resolve_case("a note too long", room, sizeof room, "max", 3, NOTICE_TOO_LONG, sizeof room, 0, 0);
+}
+
+int main(void) {
+    uint8_t example[sizeof EXAMPLE - 1];
+    memcpy(example, EXAMPLE, sizeof example);
+    same("the whole example", "its length", sizeof example, 34);
+    read_cases(example, sizeof example);
+    render_cases(example, sizeof example);
+    resolve_cases(example, sizeof example);
+    if (memcmp(example, EXAMPLE, sizeof example) != 0) {
+        printf("the note changed\n");
+        failures++;
+    }
+    if (failures != 0) {
+        return 1;
+    }
+    printf("ok\n");
+    return 0;
+}

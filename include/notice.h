@@ -1,0 +1,173 @@
+/*
+ * notice.h: reads hospital notices written in Markdown. C99 and C++.
+ *
+ * A notice ("the note") is at most NOTICE_LIMIT bytes of UTF-8 text with LF line ends, without byte 0 and byte 13 (CR). It need
+ * not end in a byte 0. Three entries read it:
+ *
+ *   notice_read      finds its link reference definitions, its links and its code spans
+ *   notice_render    does the same and writes its page, the HTML of its paragraphs
+ *   notice_resolve   finds the destination that it gives to a label
+ *
+ * Places are counted in bytes from the note's start, from 0. A part of the note is given by two places: its start, and its end,
+ * which is the place of the first byte after it. A part that is absent is 0, 0.
+ *
+ *
+ * Memory
+ *
+ * A buffer is lent for the call only; nothing of it is kept. It is given by a pointer and a length. The length of a note, a
+ * label or a page counts bytes; the length of a table counts 32-bit numbers, not rows.
+ *
+ * - The pointer is valid for the whole length, and aligned for its type. The memory has been written before the call; with
+ *   what does not matter.
+ * - Where the length is 0, nothing is read or written through the pointer, and it may be NULL.
+ * - `answer` is never NULL: it points to as many numbers as the declaration says. All of them are stored by every call.
+ * - A buffer that the call may write to shares no byte with any other buffer of the call. The note and the label are only read;
+ *   they may overlap.
+ * - Until the call returns nothing else writes to any of the buffers, and nothing else reads those that the call may write to.
+ *
+ * Nothing else is asked of the caller: every note, every label and every length has an answer, and every call ends. What the
+ * tables and the page buffer hold before the call does not matter.
+ *
+ * The library has no state, allocates no memory and calls nothing but memset. Any number of threads may call it at once, each
+ * with buffers of its own. A call takes less than 4,096 bytes of stack, whatever the note.
+ *
+ *
+ * Answers
+ *
+ * Each entry returns the number of its answer, 0 or that of a refusal, and stores the numbers that go with it in `answer`. On
+ * a refusal answer[0] is the value in this table and the other numbers are 0. The first refusal that applies is the answer, in
+ * the order 1, 2, 3, 4, 5, 6; notice_resolve has the order 1, 2, 8, 7.
+ *
+ *   number  returned by    exactly when                                                value
+ *   0       all            none of the others applies                                  see the entry
+ *   1       all            the note is longer than NOTICE_LIMIT bytes                  its length
+ *   2       all            the note has byte 0 or 13, or ill-formed UTF-8              where the first bad character starts
+ *   3       read, render   fewer whole definition rows are lent than definitions       rows needed
+ *   4       read, render   some paragraph has over NOTICE_DEPTH brackets open at once  place of the first bracket too many
+ *   5       read, render   fewer whole span rows are lent than spans                   rows needed
+ *   6       render         the page buffer is shorter than the HTML                    bytes needed
+ *   7       resolve        no definition has an equal label                            0
+ *   8       resolve        the bytes given are not exactly one label, or have byte 0   0
+ *                          or 13 or ill-formed UTF-8
+ */
+#ifndef NOTICE_H
+#define NOTICE_H
+
+#include <stddef.h>
+#include <stdint.h>
+
+#ifdef __cplusplus
+extern "C" {
+#endif
+
+/* The most bytes that a note may have, and the most brackets that may be open at once in a paragraph. */
+#define NOTICE_LIMIT 32768
+#define NOTICE_DEPTH 64
+
+/* The numbers of an answer. */
+#define NOTICE_OK 0
+#define NOTICE_TOO_LONG 1
+#define NOTICE_BAD_TEXT 2
+#define NOTICE_FEW_DEFINITION_ROWS 3
+#define NOTICE_TOO_DEEP 4
+#define NOTICE_FEW_SPAN_ROWS 5
+#define NOTICE_SHORT_PAGE 6
+#define NOTICE_UNDEFINED 7
+#define NOTICE_NO_LABEL 8
+
+/*
+ * A definition row is six numbers. Definition k, counted from 1, is the row at definitions + (k - 1) * NOTICE_DEFINITION_WIDTH.
+ * All definitions stand there in the order of the note, repeats too. The label is without its brackets, the destination and
+ * the title without their delimiters.
+ */
+#define NOTICE_DEFINITION_WIDTH 6
+
+#define NOTICE_DEFINITION_LABEL_START 0
+#define NOTICE_DEFINITION_LABEL_END 1
+#define NOTICE_DEFINITION_DESTINATION_START 2
+#define NOTICE_DEFINITION_DESTINATION_END 3
+#define NOTICE_DEFINITION_TITLE_START 4
+#define NOTICE_DEFINITION_TITLE_END 5
+
+/*
+ * A span row is ten numbers. The rows stand in increasing order of NOTICE_SPAN_END. A span runs from its opening bracket or
+ * backtick to the end of its tail or closing backticks. The text of a link lies between its two brackets, that of a code span
+ * between the backtick strings. NOTICE_SPAN_DEFINITION is the number of the definition that a reference uses, from 1; 0 for a
+ * code span and an inline link. The destination and the title of a reference are those of that definition.
+ */
+#define NOTICE_SPAN_WIDTH 10
+
+#define NOTICE_SPAN_KIND 0
+#define NOTICE_SPAN_START 1
+#define NOTICE_SPAN_END 2
+#define NOTICE_SPAN_TEXT_START 3
+#define NOTICE_SPAN_TEXT_END 4
+#define NOTICE_SPAN_DEFINITION 5
+#define NOTICE_SPAN_DESTINATION_START 6
+#define NOTICE_SPAN_DESTINATION_END 7
+#define NOTICE_SPAN_TITLE_START 8
+#define NOTICE_SPAN_TITLE_END 9
+
+/* The kinds of a span: `code`, [text](destination), [text][label], [label][], [label]. */
+#define NOTICE_CODE_SPAN 1
+#define NOTICE_INLINE 2
+#define NOTICE_FULL 3
+#define NOTICE_COLLAPSED 4
+#define NOTICE_SHORTCUT 5
+
+/*
+ * Reads the note and fills the two tables, or refuses.
+ *
+ * answer[0]  on success 0; on a refusal the value in the table above
+ * answer[1]  on success the count of definitions, else 0
+ * answer[2]  on success the count of spans, else 0
+ *
+ *   after    the definition table                    the span table
+ *   0        its rows, the rest as before the call   its rows, the rest as before the call
+ *   1, 2, 3  as before the call                      as before the call
+ *   4, 5     its rows, the rest as before the call   as before the call
+ *
+ * To learn how many rows a note needs, lend none: answer 3 tells the definition rows, and with these lent answer 5 tells the
+ * span rows.
+ */
+uint32_t notice_read(const uint8_t *note, size_t note_len, uint32_t *definitions, size_t definitions_len, uint32_t *spans,
+                     size_t spans_len, uint64_t answer[3]);
+
+/*
+ * Reads the note, fills the two tables and writes the page, or refuses.
+ *
+ * answer[0]  on success 0; on a refusal the value in the table above
+ * answer[1]  on success the count of definitions, else 0
+ * answer[2]  on success the count of spans, else 0
+ * answer[3]  on success the length of the HTML, else 0
+ *
+ *   after    the definition table                    the span table                          the page buffer
+ *   0        its rows, the rest as before the call   its rows, the rest as before the call   the HTML, the rest as before the call
+ *   1, 2, 3  as before the call                      as before the call                      as before the call
+ *   4, 5     its rows, the rest as before the call   as before the call                      as before the call
+ *   6        its rows, the rest as before the call   its rows, the rest as before the call   as before the call
+ *
+ * No byte 0 is written after the HTML. To learn how long the page is, lend a page buffer of length 0: answer 6 tells it.
+ */
+uint32_t notice_render(const uint8_t *note, size_t note_len, uint32_t *definitions, size_t definitions_len, uint32_t *spans,
+                       size_t spans_len, uint8_t *page, size_t page_len, uint64_t answer[4]);
+
+/*
+ * Finds the destination that the note gives to a label: that of its first definition with an equal label. The label is given
+ * without its brackets. Labels are equal if their bytes agree after A to Z became a to z, spaces, tabs and LFs at both ends
+ * were dropped, and each run of them inside became one space.
+ *
+ * answer[0]  on success the destination's start; on a refusal the value in the table above
+ * answer[1]  on success the destination's start, else 0
+ * answer[2]  on success the destination's end, else 0
+ *
+ * The destination is the part of the note from answer[1] to answer[2], as it stands there, backslashes kept. It may be empty.
+ * Only the number that is returned tells an empty destination from a refusal.
+ */
+uint32_t notice_resolve(const uint8_t *note, size_t note_len, const uint8_t *label, size_t label_len, uint64_t answer[3]);
+
+#ifdef __cplusplus
+}
+#endif
+
+#endif
