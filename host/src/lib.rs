@@ -1,7 +1,10 @@
 //! What stands beside the proved reader: plain Rust without dependencies.
 //!
-//! [`second`] is a second reader of notices, written from document 01 by another method than the
-//! proved one, so that the two can be compared. [`json`] reads the file of source examples.
+//! [`entries`] calls the proved library. [`second`] is a second reader of notices, written from
+//! document 01 by another method than the proved one, so that the two can be compared. [`generate`]
+//! makes notes for the comparison and the benchmark. [`json`] reads the file of source examples.
 
+pub mod entries;
+pub mod generate;
 pub mod json;
 pub mod second;

@@ -1,0 +1,70 @@
+//! Times the proved reader and page writer on the notes of the benchmark, beside the second reader
+//! and, where they are installed, cmark-gfm and md4c. `docs/BENCHMARK.md` says what is measured.
+//!
+//! `cargo run --release --offline --manifest-path host/Cargo.toml --bin bench [NOTE...]`
+
+mod libraries;
+mod measure;
+mod ours;
+mod table;
+
+use std::process::ExitCode;
+
+use host::generate::bench_notes::{self, BenchNote};
+use libraries::{CmarkGfm, Md4c};
+use measure::{best_times, Candidate};
+use ours::Lent;
+use table::Line;
+
+fn main() -> ExitCode {
+    let names: Vec<String> = std::env::args().skip(1).collect();
+    let chosen = |note: &BenchNote| names.is_empty() || names.iter().any(|name| name == note.name);
+    let notes: Vec<BenchNote> = bench_notes::all().into_iter().filter(chosen).collect();
+    if notes.is_empty() {
+        eprintln!("bench: no note is named {}", names.join(", "));
+        return ExitCode::from(2);
+    }
+    let cmark_gfm = CmarkGfm::find();
+    let md4c = Md4c::find();
+    table::print_libraries(cmark_gfm.is_some(), md4c.is_some());
+    table::print_head();
+    for note in &notes {
+        let mut lent = Lent::for_note(&note.bytes);
+        if let Err(what) = lent.check(&note.bytes) {
+            eprintln!("bench: {}: {what}", note.name);
+            return ExitCode::FAILURE;
+        }
+        table::print(&time(note, &mut lent, cmark_gfm.as_ref(), md4c.as_ref()));
+    }
+    ExitCode::SUCCESS
+}
+
+/// The best times of everything there is on one note.
+fn time(
+    note: &BenchNote,
+    lent: &mut Lent,
+    cmark_gfm: Option<&CmarkGfm>,
+    md4c: Option<&Md4c>,
+) -> Line {
+    let bytes = &note.bytes;
+    let answer = lent.answer();
+    let mut for_reader = lent.clone();
+    let mut candidates = [
+        Some(Candidate::new(|| for_reader.read(bytes))),
+        Some(Candidate::new(|| lent.render(bytes))),
+        Some(Candidate::new(|| ours::second(bytes))),
+        cmark_gfm.map(|library| Candidate::new(|| library.page(bytes))),
+        md4c.map(|library| Candidate::new(|| library.page(bytes))),
+    ];
+    let [reader, page_writer, second, cmark_gfm, md4c] = best_times(&mut candidates);
+    Line {
+        name: note.name,
+        bytes: bytes.len(),
+        answer,
+        reader,
+        page_writer,
+        second,
+        cmark_gfm,
+        md4c,
+    }
+}

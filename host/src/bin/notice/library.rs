@@ -1,0 +1,158 @@
+//! The entries of the proved library, lent as much memory as the note needs.
+//!
+//! Refusals 3, 5 and 6 return what is needed, so the first question lends nothing and each later
+//! one what the answer before it asked for.
+
+use std::ops::Range;
+
+use host::entries;
+
+use crate::fault::Fault;
+use crate::rows::{DEFINITION_WIDTH, SPAN_WIDTH};
+
+const SUCCESS: u32 = 0;
+const FEW_DEFINITION_ROWS: u32 = 3;
+const FEW_SPAN_ROWS: u32 = 5;
+const PAGE_TOO_SHORT: u32 = 6;
+
+/// A refusal that more memory doesn't help.
+#[derive(Clone, Copy, Debug, PartialEq, Eq)]
+pub struct Refusal {
+    pub number: u32,
+    pub value: u64,
+}
+
+/// Why there is no answer.
+#[derive(Debug)]
+pub enum Failure {
+    Refused(Refusal),
+    Fault(Fault),
+}
+
+/// The two tables, no longer than their rows.
+#[derive(Default)]
+pub struct Tables {
+    pub definitions: Vec<u32>,
+    pub spans: Vec<u32>,
+}
+
+impl Tables {
+    /// Makes room for the rows that a refusal asks for, or hands the refusal on.
+    fn make_room(&mut self, refusal: Refusal) -> Result<(), Failure> {
+        match refusal.number {
+            FEW_DEFINITION_ROWS => grow(&mut self.definitions, refusal.value, DEFINITION_WIDTH),
+            FEW_SPAN_ROWS => grow(&mut self.spans, refusal.value, SPAN_WIDTH),
+            _ => Err(Failure::Refused(refusal)),
+        }
+    }
+}
+
+/// The note's definition rows and span rows.
+pub fn read(note: &[u8]) -> Result<Tables, Failure> {
+    let mut tables = Tables::default();
+    loop {
+        let answer = entries::read(note, &mut tables.definitions, &mut tables.spans);
+        if answer.number == SUCCESS {
+            return Ok(tables);
+        }
+        tables.make_room(Refusal {
+            number: answer.number,
+            value: answer.value,
+        })?;
+    }
+}
+
+/// The note's page.
+pub fn page(note: &[u8]) -> Result<Vec<u8>, Failure> {
+    let mut tables = Tables::default();
+    let mut page = Vec::new();
+    loop {
+        let answer = entries::render(note, &mut tables.definitions, &mut tables.spans, &mut page);
+        match answer.number {
+            SUCCESS => return Ok(page),
+            PAGE_TOO_SHORT => grow(&mut page, answer.value, 1)?,
+            number => tables.make_room(Refusal {
+                number,
+                value: answer.value,
+            })?,
+        }
+    }
+}
+
+/// Where the destination stands that the note gives to a label.
+pub fn resolve(note: &[u8], label: &[u8]) -> Result<Range<usize>, Failure> {
+    let answer = entries::resolve(note, label);
+    if answer.number != SUCCESS {
+        return Err(Failure::Refused(Refusal {
+            number: answer.number,
+            value: answer.value,
+        }));
+    }
+    match (usize::try_from(answer.start), usize::try_from(answer.end)) {
+        (Ok(start), Ok(end)) if start <= end && end <= note.len() => Ok(start..end),
+        _ => Err(fault("a destination outside the note")),
+    }
+}
+
+/// Makes the buffer exactly as long as is needed. A need that is met already is the library's fault.
+fn grow<T: Clone + Default>(buffer: &mut Vec<T>, rows: u64, width: usize) -> Result<(), Failure> {
+    let memory = || Failure::Fault(Fault::Memory);
+    let length = usize::try_from(rows)
+        .ok()
+        .and_then(|rows| rows.checked_mul(width))
+        .ok_or_else(memory)?;
+    if length <= buffer.len() {
+        return Err(fault("asked for more memory than it needs"));
+    }
+    buffer
+        .try_reserve_exact(length - buffer.len())
+        .map_err(|_| memory())?;
+    buffer.resize(length, T::default());
+    Ok(())
+}
+
+/// An answer that the library's promise excludes.
+pub fn fault(words: &'static str) -> Failure {
+    Failure::Fault(Fault::Library(words))
+}
+
+#[cfg(test)]
+mod tests {
+    use super::{grow, page, read, resolve, Failure};
+    use crate::fault::Fault;
+
+    const NOTE: &[u8] = b"[max]: /q2/max \"June\"\n\nUse [max].\n";
+
+    #[test]
+    fn buffers_are_exactly_as_long_as_needed() {
+        let tables = read(NOTE).expect("a good note");
+        assert_eq!(tables.definitions, [1, 4, 7, 14, 16, 20]);
+        assert_eq!(tables.spans, [5, 27, 32, 28, 31, 1, 7, 14, 16, 20]);
+        let html = page(NOTE).expect("a good note");
+        assert_eq!(
+            String::from_utf8_lossy(&html),
+            "<p>Use <a href=\"/q2/max\" title=\"June\">max</a>.</p>\n"
+        );
+        let tables = read(b"").expect("an empty note");
+        assert!(tables.definitions.is_empty() && tables.spans.is_empty());
+    }
+
+    #[test]
+    fn the_enquiry_hands_back_a_part_of_the_note() {
+        assert_eq!(resolve(NOTE, b" MAX ").ok(), Some(7..14));
+        assert!(matches!(
+            resolve(NOTE, b"min"),
+            Err(Failure::Refused(refusal)) if refusal.number == 7
+        ));
+    }
+
+    #[test]
+    fn needs_that_can_not_be_met() {
+        for (rows, width) in [(u64::MAX, 1), (u64::MAX, 10), (u64::MAX / 4, 1)] {
+            let failure = grow(&mut Vec::<u32>::new(), rows, width);
+            assert!(matches!(failure, Err(Failure::Fault(Fault::Memory))));
+        }
+        let failure = grow(&mut vec![0_u32; 12], 2, 6);
+        assert!(matches!(failure, Err(Failure::Fault(Fault::Library(_)))));
+    }
+}

@@ -1,0 +1,154 @@
+//! The three entries of the proved library, as `include/notice.h` declares them, over slices.
+
+#![allow(unsafe_code)]
+
+extern "C" {
+    fn notice_read(
+        note: *const u8,
+        note_len: usize,
+        definitions: *mut u32,
+        definitions_len: usize,
+        spans: *mut u32,
+        spans_len: usize,
+        answer: *mut [u64; 3],
+    ) -> u32;
+
+    fn notice_render(
+        note: *const u8,
+        note_len: usize,
+        definitions: *mut u32,
+        definitions_len: usize,
+        spans: *mut u32,
+        spans_len: usize,
+        page: *mut u8,
+        page_len: usize,
+        answer: *mut [u64; 4],
+    ) -> u32;
+
+    fn notice_resolve(
+        note: *const u8,
+        note_len: usize,
+        label: *const u8,
+        label_len: usize,
+        answer: *mut [u64; 3],
+    ) -> u32;
+}
+
+/// What the reader answers.
+#[derive(Clone, Copy, Debug, PartialEq, Eq)]
+pub struct Reading {
+    /// 0, or the refusal's number.
+    pub number: u32,
+    /// What is returned with a refusal.
+    pub value: u64,
+    /// The count of definitions, on success.
+    pub definitions: u64,
+    /// The count of spans, on success.
+    pub spans: u64,
+}
+
+/// What the page writer answers.
+#[derive(Clone, Copy, Debug, PartialEq, Eq)]
+pub struct Rendering {
+    /// 0, or the refusal's number.
+    pub number: u32,
+    /// What is returned with a refusal.
+    pub value: u64,
+    /// The count of definitions, on success.
+    pub definitions: u64,
+    /// The count of spans, on success.
+    pub spans: u64,
+    /// The HTML's length in bytes, on success.
+    pub length: u64,
+}
+
+/// What the enquiry answers.
+#[derive(Clone, Copy, Debug, PartialEq, Eq)]
+pub struct Enquiry {
+    /// 0, or the refusal's number.
+    pub number: u32,
+    /// The destination's start, or what is returned with a refusal.
+    pub value: u64,
+    /// The destination's start, on success.
+    pub start: u64,
+    /// The destination's end, on success.
+    pub end: u64,
+}
+
+/// Reads a note and fills the two tables, or refuses.
+pub fn read(note: &[u8], definitions: &mut [u32], spans: &mut [u32]) -> Reading {
+    let mut answer = [0; 3];
+    // SAFETY: each pointer and length is a slice's own, and no two of the slices overlap.
+    let number = unsafe {
+        notice_read(
+            note.as_ptr(),
+            note.len(),
+            definitions.as_mut_ptr(),
+            definitions.len(),
+            spans.as_mut_ptr(),
+            spans.len(),
+            &mut answer,
+        )
+    };
+    let [value, definitions, spans] = answer;
+    Reading {
+        number,
+        value,
+        definitions,
+        spans,
+    }
+}
+
+/// Reads a note, fills the two tables and writes the page, or refuses.
+pub fn render(
+    note: &[u8],
+    definitions: &mut [u32],
+    spans: &mut [u32],
+    page: &mut [u8],
+) -> Rendering {
+    let mut answer = [0; 4];
+    // SAFETY: each pointer and length is a slice's own, and no two of the slices overlap.
+    let number = unsafe {
+        notice_render(
+            note.as_ptr(),
+            note.len(),
+            definitions.as_mut_ptr(),
+            definitions.len(),
+            spans.as_mut_ptr(),
+            spans.len(),
+            page.as_mut_ptr(),
+            page.len(),
+            &mut answer,
+        )
+    };
+    let [value, definitions, spans, length] = answer;
+    Rendering {
+        number,
+        value,
+        definitions,
+        spans,
+        length,
+    }
+}
+
+/// Finds the destination that a note gives to a label.
+pub fn resolve(note: &[u8], label: &[u8]) -> Enquiry {
+    let mut answer = [0; 3];
+    // SAFETY: each pointer and length is a slice's own, and no two of the slices overlap.
+    let number = unsafe {
+        notice_resolve(
+            note.as_ptr(),
+            note.len(),
+            label.as_ptr(),
+            label.len(),
+            &mut answer,
+        )
+    };
+    let [value, start, end] = answer;
+    Enquiry {
+        number,
+        value,
+        start,
+        end,
+    }
+}

@@ -1,0 +1,20 @@
+//! The proved library, through its exported entries, against the second reader: answer numbers,
+//! values and counts, both tables and the page whole, with the guards around them.
+//!
+//! Random notes are the same in every run. Two environment variables change that:
+//! - `NOTICE_DIFFERENTIAL_NOTES=N`: so many random notes in all (600,000 if not given);
+//! - `NOTICE_DIFFERENTIAL_SEED=S`: another seed (1 if not given).
+//!
+//! A longer run: `NOTICE_DIFFERENTIAL_NOTES=20000000 NOTICE_DIFFERENTIAL_SEED=2 cargo test
+//! --release --offline --manifest-path host/Cargo.toml --test differential`. A difference is printed
+//! with its seed, the note, cut down as far as it still differs, and both answers.
+
+mod bad;
+mod compare;
+mod lent;
+mod named;
+mod random;
+mod raw;
+mod shrink;
+mod sources;
+mod trial;

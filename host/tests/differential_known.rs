@@ -1,0 +1,95 @@
+//! The answers that are known beforehand, against the proved library: the tests of `edges.rs`
+//! (numbers counted by hand) and of `examples.rs` (the sources' pages) are run a second time, with
+//! the library's entries in the place of the second reader.
+
+// In the two files `host` means this one, so `host::second` is the module below.
+extern crate host as package;
+extern crate self as host;
+
+pub use package::json;
+
+/// The library in the second reader's form.
+pub mod second {
+    use package::entries;
+    pub use package::second::{
+        number, DefinitionRow, ReadAnswer, RenderAnswer, ResolveAnswer, SpanRow,
+    };
+
+    /// A number and a byte that stand in no row and no page.
+    const NUMBER: u32 = u32::MAX;
+    const BYTE: u8 = 0xff;
+    /// More than any of the notes needs.
+    const MOST_NUMBERS: usize = 120_003;
+    const MOST_BYTES: usize = 400_000;
+
+    pub fn read(note: &[u8], definition_numbers: usize, span_numbers: usize) -> ReadAnswer {
+        let mut definitions = vec![NUMBER; definition_numbers.min(MOST_NUMBERS)];
+        let mut spans = vec![NUMBER; span_numbers.min(MOST_NUMBERS)];
+        let answer = entries::read(note, &mut definitions, &mut spans);
+        ReadAnswer {
+            number: answer.number,
+            value: answer.value as usize,
+            definition_count: answer.definitions as usize,
+            span_count: answer.spans as usize,
+            definition_rows: rows(&definitions, !matches!(answer.number, 1..=3)),
+            span_rows: rows(&spans, !matches!(answer.number, 1..=5)),
+        }
+    }
+
+    pub fn render(
+        note: &[u8],
+        definition_numbers: usize,
+        span_numbers: usize,
+        page_bytes: usize,
+    ) -> RenderAnswer {
+        let mut definitions = vec![NUMBER; definition_numbers.min(MOST_NUMBERS)];
+        let mut spans = vec![NUMBER; span_numbers.min(MOST_NUMBERS)];
+        let mut page = vec![BYTE; page_bytes.min(MOST_BYTES)];
+        let answer = entries::render(note, &mut definitions, &mut spans, &mut page);
+        RenderAnswer {
+            number: answer.number,
+            value: answer.value as usize,
+            definition_count: answer.definitions as usize,
+            span_count: answer.spans as usize,
+            page_length: answer.length as usize,
+            definition_rows: rows(&definitions, !matches!(answer.number, 1..=3)),
+            span_rows: rows(&spans, !matches!(answer.number, 1..=5)),
+            page: written(page, answer.number == 0),
+        }
+    }
+
+    pub fn resolve(note: &[u8], label: &[u8]) -> ResolveAnswer {
+        let answer = entries::resolve(note, label);
+        ResolveAnswer {
+            number: answer.number,
+            value: answer.value as usize,
+            destination: answer.start as usize..answer.end as usize,
+        }
+    }
+
+    /// The rows at the start of a table that was full of `NUMBER`; `None` where nothing is written
+    /// and nothing should be. A row written in part is kept, so that it differs from any wanted.
+    fn rows<const WIDTH: usize>(table: &[u32], expected: bool) -> Option<Vec<[u32; WIDTH]>> {
+        let last = table.iter().rposition(|number| *number != NUMBER);
+        let length = last.map_or(0, |last| last + 1);
+        if length == 0 && !expected {
+            return None;
+        }
+        let mut numbers = table[..length].to_vec();
+        numbers.resize(length.next_multiple_of(WIDTH), NUMBER);
+        let row = |chunk: &[u32]| std::array::from_fn(|place| chunk[place]);
+        Some(numbers.chunks(WIDTH).map(row).collect())
+    }
+
+    /// The bytes written at the start of a page that was full of `BYTE`, likewise.
+    fn written(mut page: Vec<u8>, expected: bool) -> Option<Vec<u8>> {
+        let last = page.iter().rposition(|byte| *byte != BYTE);
+        page.truncate(last.map_or(0, |last| last + 1));
+        (expected || !page.is_empty()).then_some(page)
+    }
+}
+
+#[path = "edges.rs"]
+mod edges;
+#[path = "examples.rs"]
+mod examples;

@@ -1,0 +1,133 @@
+//! Every command on every example, against stored output.
+
+use std::path::{Path, PathBuf};
+
+use crate::run::{notice_in, Ran};
+
+const GOOD: [&str; 4] = ["june", "max", "night-shift", "pump-library"];
+const REFUSED: &str = "too-deep";
+
+fn host() -> &'static Path {
+    Path::new(env!("CARGO_MANIFEST_DIR"))
+}
+
+fn folder() -> PathBuf {
+    host().join("../examples")
+}
+
+fn stored(name: &str) -> String {
+    let path = host().join("tests/data/tool").join(name);
+    std::fs::read_to_string(&path).unwrap_or_else(|error| panic!("{}: {error}", path.display()))
+}
+
+fn run(words: &[&str]) -> Ran {
+    notice_in(&folder(), words)
+}
+
+#[test]
+fn all_examples_are_here() {
+    let names = std::fs::read_dir(folder()).expect("the examples");
+    let mut names: Vec<String> = names
+        .map(|entry| entry.expect("an example").file_name())
+        .map(|name| name.to_string_lossy().into_owned())
+        .filter(|name| name.ends_with(".md"))
+        .collect();
+    names.sort();
+    let wanted = GOOD
+        .iter()
+        .chain([&REFUSED])
+        .map(|name| format!("{name}.md"));
+    assert_eq!(names, wanted.collect::<Vec<_>>());
+}
+
+#[test]
+fn pages() {
+    for name in GOOD {
+        let file = format!("{name}.md");
+        let page = run(&["page", &file]).good();
+        assert_eq!(page, stored(&format!("{name}.page.html")), "{name}");
+        let standalone = run(&["page", "--standalone", &file]).good();
+        assert_eq!(
+            standalone,
+            stored(&format!("{name}.standalone.html")),
+            "{name}"
+        );
+        assert!(standalone.contains(&page), "{name}");
+    }
+}
+
+#[test]
+fn links() {
+    for name in GOOD {
+        let file = format!("{name}.md");
+        let table = run(&["links", &file]).good();
+        assert_eq!(table, stored(&format!("{name}.links.txt")), "{name}");
+        let json = run(&["links", "--json", &file]).good();
+        assert_eq!(json, stored(&format!("{name}.links.json")), "{name}");
+    }
+}
+
+#[test]
+fn checks() {
+    for name in GOOD {
+        assert_eq!(run(&["check", &format!("{name}.md")]).good(), "", "{name}");
+    }
+}
+
+#[test]
+fn destinations() {
+    let answers = [
+        (
+            "june",
+            "max rate",
+            "/pump/2026-06/max-rate, line 4 (column 13)\n",
+        ),
+        (
+            "june",
+            "\tMAX\nRate ",
+            "/pump/2026-06/max-rate, line 4 (column 13)\n",
+        ),
+        (
+            "june",
+            "pharmacy",
+            "mailto:pharmacy@ward.example, line 5 (column 14)\n",
+        ),
+        (
+            "pump-library",
+            "rollback",
+            "</pump/library/7.1 (kept)>, line 2 (column 14)\n",
+        ),
+        (
+            "night-shift",
+            "On Call",
+            "tel:+00-555-0100, line 1 (column 12)\n",
+        ),
+    ];
+    for (name, label, wanted) in answers {
+        let file = format!("{name}.md");
+        assert_eq!(run(&["where", label, &file]).good(), wanted, "{label:?}");
+    }
+}
+
+#[test]
+fn the_refused_example() {
+    let file = format!("{REFUSED}.md");
+    let line = stored(&format!("{REFUSED}.check.txt"));
+    let refused = Ran {
+        status: Some(4),
+        out: line.clone(),
+        err: String::new(),
+    };
+    assert_eq!(run(&["check", &file]), refused);
+    for words in [
+        &["page", &file][..],
+        &["page", "--standalone", &file],
+        &["links", &file],
+        &["links", "--json", &file],
+    ] {
+        assert_eq!(run(words).bad(4), line, "{words:?}");
+    }
+    assert!(run(&["where", "e1", &file])
+        .bad(7)
+        .contains(": refusal 7: "));
+}

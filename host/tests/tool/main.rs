@@ -1,0 +1,11 @@
+//! The command-line tool: its commands on the examples and on hard notes, refusals, files, usage.
+
+mod compared;
+mod examples;
+mod files;
+mod notes;
+mod output;
+mod refusals;
+mod run;
+mod usage;
+mod wrapper;

@@ -1,0 +1,164 @@
+//! The wrapper at the repository's root, with a stand-in for the kit and for cargo.
+
+use std::os::unix::fs::{symlink, PermissionsExt};
+use std::path::Path;
+use std::process::{Command, Stdio};
+use std::time::{Duration, SystemTime};
+
+use crate::run::{Folder, Ran, TOOL};
+
+const WRAPPER: &str = concat!(env!("CARGO_MANIFEST_DIR"), "/../notice");
+const NOTE: &[u8] = b"Take `4 mg`.\n";
+const PAGE: &str = "<p>Take <code>4 mg</code>.</p>\n";
+const LIBRARY: &str = "root/target/staticlib/libnotice_c.a";
+const BUILT: &str = "root/host/target/release/notice";
+
+/// A repository whose `rt` and `cargo` note each call in the file `calls`.
+fn repository() -> Folder {
+    let folder = Folder::new();
+    folder.write("root/crates/notice/src/lib.rt", b"");
+    folder.write("root/crates.txt", b"");
+    folder.write("root/host/src/lib.rs", b"");
+    folder.write("root/host/build.rs", b"");
+    folder.write("root/host/Cargo.toml", b"");
+    folder.write("ward/note.md", NOTE);
+    std::fs::copy(WRAPPER, folder.path().join("root/notice")).expect("the wrapper");
+    program(
+        &folder,
+        "rt",
+        "mkdir -p target/staticlib && echo x >target/staticlib/libnotice_c.a",
+    );
+    program(
+        &folder,
+        "cargo",
+        &format!("mkdir -p host/target/release && cp '{TOOL}' host/target/release/notice"),
+    );
+    folder
+}
+
+/// A program that stands in for another: it reads its input, notes the call and does `work`.
+fn program(folder: &Folder, name: &str, work: &str) {
+    let calls = folder.path().join("calls");
+    let script = format!(
+        "#!/bin/sh\ncat\necho \"{name} $*\" >>'{}'\necho chatter\necho chatter >&2\n{work}\n",
+        calls.display()
+    );
+    let path = folder.write(Path::new("bin").join(name), script.as_bytes());
+    std::fs::set_permissions(path, PermissionsExt::from_mode(0o755)).expect("a program");
+}
+
+/// Runs the wrapper in the folder `ward` with the note on standard input.
+fn run(folder: &Folder, wrapper: &str, words: &[&str]) -> Ran {
+    let path = std::env::var("PATH").expect("a search path");
+    let bin = folder.path().join("bin");
+    let output = Command::new(wrapper)
+        .args(words)
+        .env("PATH", format!("{}:{path}", bin.display()))
+        .current_dir(folder.path().join("ward"))
+        .stdin(Stdio::from(
+            std::fs::File::open(folder.path().join("ward/note.md")).expect("the note"),
+        ))
+        .output();
+    Ran::of(output.expect("the wrapper runs"))
+}
+
+/// The programs called since the last question.
+fn calls(folder: &Folder) -> Vec<String> {
+    let path = folder.path().join("calls");
+    let calls = std::fs::read_to_string(&path).unwrap_or_default();
+    let _ = std::fs::remove_file(path);
+    calls.lines().map(str::to_string).collect()
+}
+
+const RT: &str = "rt staticlib notice_c";
+const CARGO: &str = "cargo build --release --offline --bin notice \
+                     --manifest-path host/Cargo.toml --target-dir host/target";
+
+#[test]
+fn builds_what_is_missing_and_runs_the_tool() {
+    let folder = repository();
+    let first = run(&folder, "../root/notice", &["page", "note.md"]);
+    assert_eq!((first.status, first.out.as_str()), (Some(0), PAGE));
+    assert_eq!(first.err.lines().count(), 2, "{}", first.err);
+    assert!(first
+        .err
+        .lines()
+        .all(|line| line.starts_with("notice: building ")));
+    assert_eq!(calls(&folder), [RT, CARGO]);
+    assert_eq!(
+        run(&folder, "../root/notice", &["page", "note.md"]).good(),
+        PAGE
+    );
+    assert_eq!(calls(&folder), [""; 0]);
+}
+
+#[test]
+fn leaves_standard_input_to_the_tool() {
+    let folder = repository();
+    let ran = run(&folder, "../root/notice", &["page", "-"]);
+    assert_eq!((ran.status, ran.out.as_str()), (Some(0), PAGE));
+}
+
+#[test]
+fn passes_arguments_and_the_exit_status_on() {
+    let folder = repository();
+    run(&folder, "../root/notice", &["--version"]);
+    let ran = run(
+        &folder,
+        "../root/notice",
+        &["where", "a  \"*'$x", "note.md"],
+    );
+    assert!(ran.bad(7).starts_with("note.md:1:1: refusal 7: "));
+    assert!(run(&folder, "../root/notice", &[])
+        .bad(64)
+        .contains("no command"));
+    symlink("../root/notice", folder.path().join("bin/notice")).expect("a link");
+    assert_eq!(
+        run(&folder, "../bin/notice", &["page", "note.md"]).good(),
+        PAGE
+    );
+}
+
+#[test]
+fn builds_again_what_is_older_than_its_sources() {
+    let folder = repository();
+    run(&folder, "../root/notice", &["--version"]);
+    calls(&folder);
+    let later = SystemTime::now() + Duration::from_secs(1);
+    let touch = |name: &str, time| {
+        let file = std::fs::File::options()
+            .append(true)
+            .open(folder.path().join(name));
+        file.and_then(|file| file.set_modified(time))
+            .expect("a time set");
+    };
+    let earlier = SystemTime::now() - Duration::from_secs(60);
+    touch(LIBRARY, earlier);
+    run(&folder, "../root/notice", &["--version"]);
+    assert_eq!(calls(&folder), [RT, CARGO]);
+    touch(BUILT, earlier);
+    run(&folder, "../root/notice", &["--version"]);
+    assert_eq!(calls(&folder), [CARGO]);
+    touch("root/host/src/lib.rs", later);
+    run(&folder, "../root/notice", &["--version"]);
+    assert_eq!(calls(&folder), [CARGO]);
+}
+
+#[test]
+fn says_what_could_not_be_built() {
+    let folder = repository();
+    program(&folder, "rt", "echo not proved >&2; exit 1");
+    let err = run(&folder, "../root/notice", &["page", "note.md"]).bad(69);
+    assert!(err.contains("\nnot proved\n"), "{err}");
+    assert!(
+        err.ends_with("notice: can't build the proved library: rt failed\n"),
+        "{err}"
+    );
+    assert_eq!(calls(&folder), [RT]);
+    program(&folder, "rt", "true");
+    let err = run(&folder, "../root/notice", &["page", "note.md"]).bad(69);
+    assert!(
+        err.ends_with("notice: can't build the proved library: rt failed\n"),
+        "{err}"
+    );
+}
