@@ -1,8 +1,7 @@
 -- The enquiry: which answer a note and a label have.
 use Prim.Native.Nat.{ℕ, _≤_}
-use mathlib.Core.Path.{_≡_}
 use mathlib.Core.List.{List, _∷_, _++_}
-use mathlib.Core.Logic.{_↔_, _⊎_}
+use mathlib.Core.Logic.{_⊎_}
 use lib.ListN.{length}
 use Rattle.text.specs.Utf8.{Clean, FirstBad, noteLimit, TooLong, Unclean, GoodNote}
 use Rattle.label.specs.Label.{IsLabel}
@@ -12,7 +11,6 @@ use Rattle.row.specs.First.{labelsOf, FirstEqual, NoneEqual}
 use Rattle.definition.specs.Note.{NoteIs}
 use Rattle.enquiry.specs.declared.Enquiry.{Enquiry}
 use Rattle.enquiry.specs.declared.Enquiry.the-variants.{Found, Long, Bad, NotLabel, Undefined}
-use Rattle.enquiry.specs.Enquiry.{numberOf, valueOf}
 
 -- 8: "the bytes given, set between `[` and `]`, are not exactly one label, or hold byte 0 or 13 or ill-formed UTF-8"
 abbrev pub NoLabel : List ℕ → Type 0
@@ -68,8 +66,3 @@ pub data Answers (note label : List ℕ) : Enquiry → Type 0 where
   undefined : Due7 note label → Answers note label Undefined
   -- with the destination's start and end
   found : {d : Definition} → Due0 note label d → Answers note label (Found (d .destination .start) (d .destination .end))
-
--- a line of the table: the answer e has this number "exactly when" `When` holds, and then `Value` holds of what is "Returned with it"
-pub record Given (e : Enquiry) (number : ℕ) (When : Type 0) (Value : ℕ → Type 0) : Type 0 where
-  pub exactly : (numberOf e ≡ number) ↔ When
-  pub value : When → Value (valueOf e)

@@ -25,7 +25,7 @@ use Rattle.note.proofs.Markings.{one-marking-each}
 use Rattle.note.proofs.SpanRows.{span-rows-iff}
 use Rattle.note.proofs.Depth.{first-deep-iff, never-deep-iff}
 use Rattle.notice.specs.declared.Reading.{Reading}
-use Rattle.notice.specs.declared.Reading.the-variants.{Read, Long, Bad, FewDefinitions, Deep, FewSpans}
+use Rattle.notice.specs.declared.Reading.the-variants.{FewDefinitions, FewSpans}
 use Rattle.notice.specs.Law.{DefinitionsCounted, SpansCounted, Enough, SomeDeep, Answers, long, bad, few-definitions, deep, few-spans, read}
 use Rattle.notice.specs.Reader.{withDefinitions, readingOf}
 use Rattle.notice.proofs.Order.{too-few-definitions, too-deep, too-few-spans, all-read, by-check}

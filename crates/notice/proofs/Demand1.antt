@@ -4,6 +4,7 @@ use native.Mathlib.Omega.{arith}
 use mathlib.Core.Path.{_≡_, refl, sym, ap, _∙_, subst}
 use mathlib.Core.List.{List}
 use lib.ListN.{length}
+use Rattle.refusal.specs.Given.{Given}
 use Rattle.text.specs.Utf8.{FirstBad}
 use Rattle.text.proofs.Refusals.{check-bad, refused-2}
 use Rattle.note.specs.Note.{FirstDeep}
@@ -11,7 +12,7 @@ use Rattle.notice.specs.declared.Reading.{Reading}
 use Rattle.notice.specs.declared.Reading.the-variants.{Read, Long, Bad, FewDefinitions, Deep, FewSpans}
 use Rattle.notice.specs.Law.{DefinitionsCounted, SpansCounted, Due0, Due1, Due2, Due3, Due4, Due5, Answers, long, bad, few-definitions, deep, few-spans, read}
 use Rattle.notice.specs.Reader.{numberOf, valueOf, definitionCount, spanCount, readingOf}
-use Rattle.notice.specs.Claims.{Given, Demand1}
+use Rattle.notice.specs.Claims.{Demand1}
 use Rattle.notice.proofs.Answers.{first-deep, the-answer, answers-iff}
 
 module _ (s : List ℕ) (d n : ℕ) where
@@ -43,7 +44,7 @@ module _ (s : List ℕ) (d n : ℕ) where
     pub number-is : numberOf answer ≡ number
     pub value-is : Value (valueOf answer)
 
-  given : (number : ℕ) {Value : ℕ → Type 0} → (Due number → Line number Value) → Given (readingOf s d n) number (Due number) Value
+  given : (number : ℕ) {Value : ℕ → Type 0} → (Due number → Line number Value) → Given (numberOf (readingOf s d n)) (valueOf (readingOf s d n)) number (Due number) Value
   given number {Value} line =
       record {
         exactly = (λ e. subst Due e (due (the-answer s d n)), λ w. let l = line w in ap numberOf (answers-iff s d n (l .answer) .1 (l .by-law)) ∙ l .number-is);

@@ -6,7 +6,6 @@ use mathlib.Core.List.{List}
 use borrow.Author.Tests.{lt-ltb, le-ltb}
 use lib.ListN.{length}
 use Rattle.text.specs.declared.Checked.{Checked}
-use Rattle.text.specs.declared.Checked.the-variants as text
 use Rattle.text.specs.Reading.{checkOf}
 use Rattle.definition.specs.Reading.{definitions}
 use Rattle.note.specs.Reading.{spanRows, firstDeep}

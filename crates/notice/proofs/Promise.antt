@@ -33,6 +33,6 @@ module _ {s t u : List ℕ} {r : Reading} {s′ t′ u′ : List ℕ} (p : Promi
         value = ap valueOf e;
         definitions-counted = ap definitionCount e;
         spans-counted = ap spanCount e;
-        definitions = p .definitions ∙ ap (λ (x : Reading). definitionTableOf s x t) e ∙ sym (q .definitions);
-        spans = p .spans ∙ ap (λ (x : Reading). spanTableOf s x u) e ∙ sym (q .spans);
+        definitions = p .definitions ∙ ap (λ (x : Reading). definitionTableOf s (numberOf x) t) e ∙ sym (q .definitions);
+        spans = p .spans ∙ ap (λ (x : Reading). spanTableOf s (numberOf x) u) e ∙ sym (q .spans);
       }

@@ -98,7 +98,7 @@ module _ (s : List ℕ) where
         }
 
   pub tables-after : (t u : List ℕ) {t′ u′ : List ℕ} (x : Reading) → Answers s (definitionTable.wholeRows t) (spanTable.wholeRows u) x
-      → t′ ≡ definitionTableOf s x t → u′ ≡ spanTableOf s x u → Tables s t u x t′ u′
+      → t′ ≡ definitionTableOf s (numberOf x) t → u′ ≡ spanTableOf s (numberOf x) u → Tables s t u x t′ u′
   tables-after t u x (long w) p q = after-1-2-3 t u x (omega arith) (omega arith) p q
   tables-after t u x (bad w f) p q = after-1-2-3 t u x (omega arith) (omega arith) p q
   tables-after t u x (few-definitions w) p q = after-1-2-3 t u x (omega arith) (omega arith) p q

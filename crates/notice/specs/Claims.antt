@@ -4,6 +4,7 @@ use mathlib.Core.Path.{_≡_}
 use mathlib.Core.Logic.{_↔_}
 use mathlib.Core.List.{List, _++_}
 use lib.ListN.{length, getD, drop}
+use Rattle.refusal.specs.Given.{Given}
 use Rattle.text.specs.Utf8.{FirstBad}
 use Rattle.marking.specs.Spans.{In}
 use Rattle.block.specs.Block.{Placed}
@@ -17,20 +18,15 @@ use Rattle.notice.specs.declared.Reading.{Reading}
 use Rattle.notice.specs.Law.{DefinitionsCounted, SpansCounted, Due0, Due1, Due2, Due3, Due4, Due5, Answers}
 use Rattle.notice.specs.Reader.{numberOf, valueOf, definitionCount, spanCount, spanNumbers}
 
--- a line of the table: r has this number "exactly when" `When` holds, and then `Value` holds of what is "Returned with it"
-pub record Given (r : Reading) (number : ℕ) (When : Type 0) (Value : ℕ → Type 0) : Type 0 where
-  pub exactly : (numberOf r ≡ number) ↔ When
-  pub value : When → Value (valueOf r)
-
 -- Demand 1 of the answer r to the note s, where so many whole rows of each table are lent.
 pub record Demand1 (s : List ℕ) (definition-rows span-rows : ℕ) (r : Reading) : Type 0 where
-  pub line-1 : Given r 1 (Due1 s definition-rows span-rows) (λ v. v ≡ length s)
-  pub line-2 : Given r 2 (Due2 s definition-rows span-rows) (FirstBad s)
-  pub line-3 : Given r 3 (Due3 s definition-rows span-rows) (DefinitionsCounted s)
-  pub line-4 : Given r 4 (Due4 s definition-rows span-rows) (FirstDeep s)
-  pub line-5 : Given r 5 (Due5 s definition-rows span-rows) (SpansCounted s)
+  pub line-1 : Given (numberOf r) (valueOf r) 1 (Due1 s definition-rows span-rows) (λ v. v ≡ length s)
+  pub line-2 : Given (numberOf r) (valueOf r) 2 (Due2 s definition-rows span-rows) (FirstBad s)
+  pub line-3 : Given (numberOf r) (valueOf r) 3 (Due3 s definition-rows span-rows) (DefinitionsCounted s)
+  pub line-4 : Given (numberOf r) (valueOf r) 4 (Due4 s definition-rows span-rows) (FirstDeep s)
+  pub line-5 : Given (numberOf r) (valueOf r) 5 (Due5 s definition-rows span-rows) (SpansCounted s)
   -- "Success is number 0 with the counts of definitions and spans"
-  pub success : Given r 0 (Due0 s definition-rows span-rows) (λ v. v ≡ 0)
+  pub success : Given (numberOf r) (valueOf r) 0 (Due0 s definition-rows span-rows) (λ v. v ≡ 0)
   pub definitions-counted : numberOf r ≡ 0 → DefinitionsCounted s (definitionCount r)
   pub spans-counted : numberOf r ≡ 0 → SpansCounted s (spanCount r)
   -- all of it at once

@@ -5,7 +5,7 @@ use mathlib.Core.Option.{Option, none, some}
 use mathlib.Core.List.{List}
 use mathlib.Core.Bool.{cond}
 use lib.ListN.{length}
-use lib.Dec.{eqb, ltb}
+use lib.Dec.{ltb}
 use Rattle.scan.specs.Byte.{within}
 use Rattle.text.specs.declared.Checked.{Checked}
 use Rattle.text.specs.declared.Checked.the-variants as text
@@ -88,17 +88,18 @@ spanNumbers = Rows.rows (λ row. row)
 abbrev pub spansFilled : List (List ℕ) → List ℕ → List ℕ
 spansFilled = Rows.filled spanTable.width (λ row. row)
 
+-- after an answer with this number, whether the reader's or the page writer's
 -- "After 1, 2, 3 all lent memory is unchanged. After 4 or 5 the definition table holds its rows": t is the table at entry
-abbrev pub definitionTableOf : List ℕ → Reading → List ℕ → List ℕ
-definitionTableOf s r t = cond (within 1 3 (numberOf r)) t (definitionTable.filled (definitions s) t)
+abbrev pub definitionTableOf : List ℕ → ℕ → List ℕ → List ℕ
+definitionTableOf s number t = cond (within 1 3 number) t (definitionTable.filled (definitions s) t)
 
--- "Span rows are given on success": u is the table at entry
-abbrev pub spanTableOf : List ℕ → Reading → List ℕ → List ℕ
-spanTableOf s r u = cond (eqb (numberOf r) 0) (spansFilled (spanRows s) u) u
+-- "After 4 or 5 .. the span table is unchanged.", "Span rows are given on success and after 6.": u is the table at entry
+abbrev pub spanTableOf : List ℕ → ℕ → List ℕ → List ℕ
+spanTableOf s number u = cond (within 1 5 number) u (spansFilled (spanRows s) u)
 
 -- For the note s, the definition table t and the span table u, the reader answers r and leaves s′, t′ and u′.
 pub record Promise (s t u : List ℕ) (r : Reading) (s′ t′ u′ : List ℕ) : Type 0 where
   pub answer : r ≡ readingOf s (definitionTable.wholeRows t) (spanTable.wholeRows u)
-  pub definitions : t′ ≡ definitionTableOf s r t
-  pub spans : u′ ≡ spanTableOf s r u
+  pub definitions : t′ ≡ definitionTableOf s (numberOf r) t
+  pub spans : u′ ≡ spanTableOf s (numberOf r) u
   pub note : s′ ≡ s

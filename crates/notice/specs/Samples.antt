@@ -1,6 +1,5 @@
 -- The reader's answers by computation, with what both tables hold before and after: the whole example of document 01, each refusal, and their order.
 use Prim.Native.Nat.{ℕ}
-use Prim.Native.String.{String}
 use mathlib.Core.Path.{_≡_, refl}
 use mathlib.Core.List.{List, [], _∷_, _++_, map}
 use lib.ListN.{replicate}
@@ -29,7 +28,7 @@ use Rattle.inline.specs.References.{labelAfter, textTail, tailOf}
 use Rattle.note.specs.Reading.{labels, rowsIn, spanRows, deepIn, firstDeep}
 use Rattle.notice.specs.declared.Reading.{Reading}
 use Rattle.notice.specs.declared.Reading.the-variants.{Read, Long, Bad, FewDefinitions, Deep, FewSpans}
-use Rattle.notice.specs.Reader.{readingOf, definitionTableOf, spanTableOf}
+use Rattle.notice.specs.Reader.{numberOf, readingOf, definitionTableOf, spanTableOf}
 
 pub record Sample : Type 0 where
   pub note : List ℕ
@@ -97,7 +96,7 @@ samples =
 
 -- the same notes and tables lent, as they are answered
 abbrev answered : List ℕ → List ℕ → List ℕ → Reading → Sample
-answered s t u r = sample s t u r (definitionTableOf s r t) (spanTableOf s r u)
+answered s t u r = sample s t u r (definitionTableOf s (numberOf r) t) (spanTableOf s (numberOf r) u)
 
 abbrev pub readOne : Sample → Sample
 readOne x =

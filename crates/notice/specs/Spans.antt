@@ -12,7 +12,7 @@ use Rattle.note.specs.Reading.{spanRows, firstDeep}
 use Rattle.paragraph.specs.declared.Marked.{Marked}
 use Rattle.paragraph.specs.declared.Marked.the-variants.{Deep, Spans}
 use Rattle.notice.specs.declared.Reading.{Reading}
-use Rattle.notice.specs.Reader.{spansFilled, withSpans, spanTableOf}
+use Rattle.notice.specs.Reader.{numberOf, spansFilled, withSpans, spanTableOf}
 
 -- the note is within the limit, and the first `count` rows of the table t are those of its definitions
 pub record Defined (s t : List ℕ) (count : ℕ) : Type 0 where
@@ -33,4 +33,4 @@ pub record NoteMarked (s u : List ℕ) (r : Marked) (u′ : List ℕ) : Type 0 w
 -- the answer after refusals 1 to 3, where the note has `count` definitions, and the table u has become u′
 pub record SpansRead (s : List ℕ) (count : ℕ) (u : List ℕ) (r : Reading) (u′ : List ℕ) : Type 0 where
   pub answer : r ≡ withSpans count (firstDeep s) (length (spanRows s)) (spanTable.wholeRows u)
-  pub spans : u′ ≡ spanTableOf s r u
+  pub spans : u′ ≡ spanTableOf s (numberOf r) u

@@ -19,6 +19,6 @@ numbersOf r = valueOf r ∷ definitionCount r ∷ spanCount r ∷ []
 pub record ReadPromise (s t u : List ℕ) (number : ℕ) (s′ t′ u′ answer : List ℕ) : Type 0 where
   pub answered : number ≡ numberOf (reading s t u)
   pub numbers : answer ≡ numbersOf (reading s t u)
-  pub definitions : t′ ≡ definitionTableOf s (reading s t u) t
-  pub spans : u′ ≡ spanTableOf s (reading s t u) u
+  pub definitions : t′ ≡ definitionTableOf s (numberOf (reading s t u)) t
+  pub spans : u′ ≡ spanTableOf s (numberOf (reading s t u)) u
   pub note : s′ ≡ s

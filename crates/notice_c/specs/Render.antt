@@ -5,8 +5,9 @@ use mathlib.Core.List.{List, [], _∷_}
 use lib.ListN.{length}
 use Rattle.row.specs.Row as definitionTable
 use Rattle.span.specs.Row as spanTable
+use Rattle.notice.specs.Reader.{definitionTableOf, spanTableOf}
 use Rattle.rendering.specs.declared.Rendering.{Rendering}
-use Rattle.rendering.specs.Renderer.{numberOf, valueOf, definitionCount, spanCount, pageLength, renderingOf, definitionTableOf, spanTableOf, pageBufferOf}
+use Rattle.rendering.specs.Renderer.{numberOf, valueOf, definitionCount, spanCount, pageLength, renderingOf, pageBufferOf}
 
 -- the page writer's answer to the note s with the definition table t, the span table u and the page buffer p
 abbrev pub rendering : List ℕ → List ℕ → List ℕ → List ℕ → Rendering
@@ -20,7 +21,7 @@ numbersOf r = valueOf r ∷ definitionCount r ∷ spanCount r ∷ pageLength r �
 pub record RenderPromise (s t u p : List ℕ) (number : ℕ) (s′ t′ u′ p′ answer : List ℕ) : Type 0 where
   pub answered : number ≡ numberOf (rendering s t u p)
   pub numbers : answer ≡ numbersOf (rendering s t u p)
-  pub definitions : t′ ≡ definitionTableOf s (rendering s t u p) t
-  pub spans : u′ ≡ spanTableOf s (rendering s t u p) u
+  pub definitions : t′ ≡ definitionTableOf s (numberOf (rendering s t u p)) t
+  pub spans : u′ ≡ spanTableOf s (numberOf (rendering s t u p)) u
   pub page : p′ ≡ pageBufferOf s (rendering s t u p) p
   pub note : s′ ≡ s

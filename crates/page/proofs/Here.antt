@@ -12,7 +12,6 @@ use Rattle.marking.specs.Spans.{Span, codeSpan, linkSpan, SpanOf}
 use Rattle.marking.proofs.Roles.{nothing≢trailing, opening≢trailing, closing≢trailing}
 use Rattle.block.specs.Block.{Placed}
 use Rattle.row.specs.declared.Definition.{Definition}
-use Rattle.definition.specs.Reading.{paragraphs}
 use Rattle.definition.proofs.Notes.{note-iff}
 use Rattle.definition.proofs.NotePlaces.{Ordered, done, next, paragraphs-in-order}
 use Rattle.inline.specs.Tails.{Tail}

@@ -8,7 +8,6 @@ use lib.ListN.{getElem?}
 use Rattle.marking.specs.Marking.{Marking}
 use Rattle.block.specs.Block.{Placed}
 use Rattle.row.specs.declared.Definition.{Definition}
-use Rattle.definition.specs.Reading.{paragraphs}
 use Rattle.definition.proofs.Notes.{note-iff}
 use Rattle.inline.specs.Tails.{Tail}
 use Rattle.note.specs.Note.{MarkingsAre, Marked}

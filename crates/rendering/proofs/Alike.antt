@@ -10,7 +10,7 @@ use Rattle.notice.specs.declared.Reading.{Reading}
 use Rattle.notice.specs.declared.Reading.the-variants.{Read, Long, Bad, FewDefinitions, Deep, FewSpans}
 use Rattle.notice.specs.Reader as reader
 use Rattle.rendering.specs.declared.Rendering.{Rendering}
-use Rattle.rendering.specs.Renderer.{numberOf, valueOf, definitionCount, spanCount, afterReading, definitionTableOf, spanTableOf}
+use Rattle.rendering.specs.Renderer.{numberOf, valueOf, definitionCount, spanCount, afterReading}
 
 abbrev ZeroOrSix : Rendering → Type 0
 ZeroOrSix r = (numberOf r ≡ 0) ⊎ (numberOf r ≡ 6)
@@ -72,11 +72,11 @@ module _ (need room : ℕ) where
             by (ltb room need) (λ t. let q : numberOf (after x) ≡ 6 = rw (e, t) refl in absurd (omega (arith, q))) (λ f. (rw (e, f) refl, rw (e, f) refl))
 
   -- ---- the tables
-  pub same-definitions : (s t : List ℕ) (x : Reading) → definitionTableOf s (after x) t ≡ reader.definitionTableOf s x t
+  pub same-definitions : (s t : List ℕ) (x : Reading) → reader.definitionTableOf s (numberOf (after x)) t ≡ reader.definitionTableOf s (reader.numberOf x) t
   same-definitions s t x =
       by-reading x (λ d n e. rw e (by (ltb room need) (λ q. rw q refl) (λ q. rw q refl))) (λ w. rw (w .number) refl)
 
-  pub same-spans : (s u : List ℕ) (x : Reading) → spanTableOf s (after x) u ≡ reader.spanTableOf s x u
+  pub same-spans : (s u : List ℕ) (x : Reading) → reader.spanTableOf s (numberOf (after x)) u ≡ reader.spanTableOf s (reader.numberOf x) u
   same-spans s u (Read d n) = by (ltb room need) (λ q. rw q refl) (λ q. rw q refl)
   same-spans s u (Long n) = refl
   same-spans s u (Bad k) = refl

@@ -4,16 +4,16 @@ use native.Mathlib.Omega.{arith}
 use mathlib.Core.Path.{_≡_, refl, sym, ap, _∙_, subst}
 use mathlib.Core.List.{List}
 use lib.ListN.{length}
+use Rattle.refusal.specs.Given.{Given}
 use Rattle.page.specs.Reading.{pageOf}
 use Rattle.notice.specs.declared.Reading.{Reading}
 use Rattle.notice.specs.Law.{DefinitionsCounted, SpansCounted}
 use Rattle.notice.specs.Reader as reader
-use Rattle.notice.specs.Claims as reader-claims
 use Rattle.notice.proofs.Demand1 as reader-answers
 use Rattle.rendering.specs.declared.Rendering.{Rendering}
 use Rattle.rendering.specs.Law.{PageMeasured, Due0, Due6, Answers, long, bad, few-definitions, deep, few-spans, short-page, rendered}
 use Rattle.rendering.specs.Renderer.{numberOf, valueOf, definitionCount, spanCount, pageLength, afterReading, renderingOf}
-use Rattle.rendering.specs.Claims.{Given, Demand1}
+use Rattle.rendering.specs.Claims.{Demand1}
 use Rattle.rendering.proofs.Alike.{same-number, same-value, was-refused}
 use Rattle.rendering.proofs.Answers.{by-reader, the-answer, answers-iff}
 
@@ -31,7 +31,7 @@ module _ (s : List ℕ) (d n room : ℕ) where
   beside : r ≡ afterReading need room x
   beside = by-reader s d n room refl
 
-  from-reader : (k : ℕ) {When : Type 0} {Value : ℕ → Type 0} → 1 ≤ k → k ≤ 5 → reader-claims.Given x k When Value → Given r k When Value
+  from-reader : (k : ℕ) {When : Type 0} {Value : ℕ → Type 0} → 1 ≤ k → k ≤ 5 → Given (reader.numberOf x) (reader.valueOf x) k When Value → Given (numberOf r) (valueOf r) k When Value
   from-reader k {When} {Value} lo hi g =
       let q = ap numberOf beside in
       let refused : When → 1 ≤ reader.numberOf x = λ w. omega (arith, g .exactly .1 w) in
@@ -53,7 +53,7 @@ module _ (s : List ℕ) (d n room : ℕ) where
   due-6 (short-page w) e = w
   due-6 (rendered w) e = absurd (omega arith)
 
-  line-6 : Given r 6 (Due6 s d n room) (PageMeasured s)
+  line-6 : Given (numberOf r) (valueOf r) 6 (Due6 s d n room) (PageMeasured s)
   line-6 =
       record {
         exactly = (due-6 (the-answer s d n room), λ w. ap numberOf (answers-iff s d n room _ .1 (short-page w)));
@@ -76,7 +76,7 @@ module _ (s : List ℕ) (d n room : ℕ) where
   counts (short-page w) e = absurd (omega arith)
   counts (rendered w) e = record { due = w; definitions = w .0 .1 .counted; spans = w .0 .3 .counted; page = w .1 .counted }
 
-  success : Given r 0 (Due0 s d n room) (λ v. v ≡ 0)
+  success : Given (numberOf r) (valueOf r) 0 (Due0 s d n room) (λ v. v ≡ 0)
   success =
       record {
         exactly = ((λ e. counts (the-answer s d n room) e .due), λ w. ap numberOf (answers-iff s d n room _ .1 (rendered w)));

@@ -19,7 +19,7 @@ use Rattle.notice.specs.Reader as reader
 use Rattle.notice.specs.Claims.{DefinitionRows, SpanRows}
 use Rattle.notice.proofs.Promise as reader-promise
 use Rattle.rendering.specs.declared.Rendering.{Rendering}
-use Rattle.rendering.specs.Renderer.{numberOf, valueOf, definitionCount, spanCount, pageLength, afterReading, definitionTableOf, spanTableOf, pageBufferOf, Promise}
+use Rattle.rendering.specs.Renderer.{numberOf, valueOf, definitionCount, spanCount, pageLength, afterReading, pageBufferOf, Promise}
 use Rattle.rendering.specs.Claims.{Demand1, PageHolds, Buffers, Same, ReadsAlike}
 use Rattle.rendering.proofs.Alike.{same-number, same-value, same-counts, same-definitions, same-spans, zero-or-six, was-refused, was-read}
 use Rattle.rendering.proofs.Answers.{by-reader, page-size}
@@ -50,8 +50,8 @@ module _ {s t u p : List ℕ} {r : Rendering} {s′ t′ u′ p′ : List ℕ} (
   reader-kept =
       record {
         answer = refl;
-        definitions = m .definitions ∙ ap (λ (y : Rendering). definitionTableOf s y t) (by-answer refl) ∙ same-definitions need (length p) s t x;
-        spans = m .spans ∙ ap (λ (y : Rendering). spanTableOf s y u) (by-answer refl) ∙ same-spans need (length p) s u x;
+        definitions = m .definitions ∙ ap (λ (y : Rendering). reader.definitionTableOf s (numberOf y) t) (by-answer refl) ∙ same-definitions need (length p) s t x;
+        spans = m .spans ∙ ap (λ (y : Rendering). reader.spanTableOf s (numberOf y) u) (by-answer refl) ∙ same-spans need (length p) s u x;
         note = m .note;
       }
 
@@ -130,7 +130,7 @@ module _ {s t u p : List ℕ} {r : Rendering} {s′ t′ u′ p′ : List ℕ} (
         definitions-counted = ap definitionCount e;
         spans-counted = ap spanCount e;
         page-measured = ap pageLength e;
-        definitions = m .definitions ∙ ap (λ (y : Rendering). definitionTableOf s y t) e ∙ sym (q .definitions);
-        spans = m .spans ∙ ap (λ (y : Rendering). spanTableOf s y u) e ∙ sym (q .spans);
+        definitions = m .definitions ∙ ap (λ (y : Rendering). reader.definitionTableOf s (numberOf y) t) e ∙ sym (q .definitions);
+        spans = m .spans ∙ ap (λ (y : Rendering). reader.spanTableOf s (numberOf y) u) e ∙ sym (q .spans);
         page = m .page ∙ ap (λ (y : Rendering). pageBufferOf s y p) e ∙ sym (q .page);
       }

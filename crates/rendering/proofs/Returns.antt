@@ -25,7 +25,7 @@ use Rattle.notice.proofs.Promise as reader-promise
 use Rattle.notice.proofs.Standing.{rows-stand}
 use Rattle.rendering.specs.declared.Rendering.{Rendering}
 use Rattle.rendering.specs.declared.Rendering.the-variants.{Rendered, Long, Bad, FewDefinitions, Deep, FewSpans, ShortPage}
-use Rattle.rendering.specs.Renderer.{afterReading, definitionTableOf, spanTableOf, pageBufferOf, Promise}
+use Rattle.rendering.specs.Renderer.{numberOf, afterReading, pageBufferOf, Promise}
 use Rattle.rendering.proofs.Alike.{same-definitions, same-spans}
 use Rattle.rendering.proofs.Answers.{by-reader}
 
@@ -49,8 +49,8 @@ module _ (p : List ℕ) {s t u s′ t′ u′ : List ℕ} {x : Reading} (m : rea
   kept {r} e q =
       record {
         answer = sym (by-reader s (definitionTable.wholeRows t) (spanTable.wholeRows u) (length p) (sym (m .answer)) ∙ e);
-        definitions = m .definitions ∙ sym (same-definitions need (length p) s t x) ∙ ap (λ (y : Rendering). definitionTableOf s y t) e;
-        spans = m .spans ∙ sym (same-spans need (length p) s u x) ∙ ap (λ (y : Rendering). spanTableOf s y u) e;
+        definitions = m .definitions ∙ sym (same-definitions need (length p) s t x) ∙ ap (λ (y : Rendering). reader.definitionTableOf s (numberOf y) t) e;
+        spans = m .spans ∙ sym (same-spans need (length p) s u x) ∙ ap (λ (y : Rendering). reader.spanTableOf s (numberOf y) u) e;
         page = q;
         note = m .note;
       }

@@ -4,6 +4,7 @@ use mathlib.Core.Path.{_≡_}
 use mathlib.Core.Logic.{_↔_, _⊎_}
 use mathlib.Core.List.{List, _++_}
 use lib.ListN.{length, take, drop}
+use Rattle.refusal.specs.Given.{Given}
 use Rattle.text.specs.Utf8.{FirstBad}
 use Rattle.note.specs.Note.{FirstDeep}
 use Rattle.page.specs.Page.{PageIs}
@@ -16,21 +17,16 @@ use Rattle.rendering.specs.declared.Rendering.{Rendering}
 use Rattle.rendering.specs.Law.{PageMeasured, Due0, Due6, Answers}
 use Rattle.rendering.specs.Renderer.{numberOf, valueOf, definitionCount, spanCount, pageLength}
 
--- a line of the table: r has this number "exactly when" `When` holds, and then `Value` holds of what is "Returned with it"
-pub record Given (r : Rendering) (number : ℕ) (When : Type 0) (Value : ℕ → Type 0) : Type 0 where
-  pub exactly : (numberOf r ≡ number) ↔ When
-  pub value : When → Value (valueOf r)
-
 -- Demand 1 of the answer r to the note s, where so many whole rows of each table and so many bytes are lent.
 pub record Demand1 (s : List ℕ) (definition-rows span-rows room : ℕ) (r : Rendering) : Type 0 where
-  pub line-1 : Given r 1 (Due1 s definition-rows span-rows) (λ v. v ≡ length s)
-  pub line-2 : Given r 2 (Due2 s definition-rows span-rows) (FirstBad s)
-  pub line-3 : Given r 3 (Due3 s definition-rows span-rows) (DefinitionsCounted s)
-  pub line-4 : Given r 4 (Due4 s definition-rows span-rows) (FirstDeep s)
-  pub line-5 : Given r 5 (Due5 s definition-rows span-rows) (SpansCounted s)
-  pub line-6 : Given r 6 (Due6 s definition-rows span-rows room) (PageMeasured s)
+  pub line-1 : Given (numberOf r) (valueOf r) 1 (Due1 s definition-rows span-rows) (λ v. v ≡ length s)
+  pub line-2 : Given (numberOf r) (valueOf r) 2 (Due2 s definition-rows span-rows) (FirstBad s)
+  pub line-3 : Given (numberOf r) (valueOf r) 3 (Due3 s definition-rows span-rows) (DefinitionsCounted s)
+  pub line-4 : Given (numberOf r) (valueOf r) 4 (Due4 s definition-rows span-rows) (FirstDeep s)
+  pub line-5 : Given (numberOf r) (valueOf r) 5 (Due5 s definition-rows span-rows) (SpansCounted s)
+  pub line-6 : Given (numberOf r) (valueOf r) 6 (Due6 s definition-rows span-rows room) (PageMeasured s)
   -- "Success is number 0 with the counts of definitions and spans, from the page writer also the HTML's length."
-  pub success : Given r 0 (Due0 s definition-rows span-rows room) (λ v. v ≡ 0)
+  pub success : Given (numberOf r) (valueOf r) 0 (Due0 s definition-rows span-rows room) (λ v. v ≡ 0)
   pub definitions-counted : numberOf r ≡ 0 → DefinitionsCounted s (definitionCount r)
   pub spans-counted : numberOf r ≡ 0 → SpansCounted s (spanCount r)
   pub page-measured : numberOf r ≡ 0 → PageMeasured s (pageLength r)

@@ -5,15 +5,12 @@ use mathlib.Core.List.{List, _++_}
 use mathlib.Core.Bool.{cond}
 use lib.ListN.{length, drop}
 use lib.Dec.{eqb, ltb}
-use Rattle.scan.specs.Byte.{within}
 use Rattle.row.specs.Row as definitionTable
-use Rattle.definition.specs.Reading.{definitions}
 use Rattle.span.specs.Row as spanTable
-use Rattle.note.specs.Reading.{spanRows}
 use Rattle.page.specs.Reading.{pageOf}
 use Rattle.notice.specs.declared.Reading.{Reading}
 use Rattle.notice.specs.declared.Reading.the-variants as reader
-use Rattle.notice.specs.Reader.{readingOf, spansFilled}
+use Rattle.notice.specs.Reader.{readingOf, definitionTableOf, spanTableOf}
 use Rattle.rendering.specs.declared.Rendering.{Rendering}
 use Rattle.rendering.specs.declared.Rendering.the-variants.{Rendered, Long, Bad, FewDefinitions, Deep, FewSpans, ShortPage}
 
@@ -89,14 +86,6 @@ unfoldable pub renderingOf : List ℕ → ℕ → ℕ → ℕ → Rendering
 renderingOf s definition-rows span-rows room = afterReading (length (pageOf s)) room (readingOf s definition-rows span-rows)
 
 -- ---- what was lent, at exit
--- "After 1, 2, 3 all lent memory is unchanged.": t is the definition table at entry
-abbrev pub definitionTableOf : List ℕ → Rendering → List ℕ → List ℕ
-definitionTableOf s r t = cond (within 1 3 (numberOf r)) t (definitionTable.filled (definitions s) t)
-
--- "Span rows are given on success and after 6.": u is the span table at entry
-abbrev pub spanTableOf : List ℕ → Rendering → List ℕ → List ℕ
-spanTableOf s r u = cond (within 1 5 (numberOf r)) u (spansFilled (spanRows s) u)
-
 -- "After 6 both tables hold their rows and the page buffer is unchanged. After every answer, .. bytes past the part in use are unchanged.": p is the page buffer at entry
 abbrev pub pageBufferOf : List ℕ → Rendering → List ℕ → List ℕ
 pageBufferOf s r p = cond (eqb (numberOf r) 0) (pageOf s ++ drop (length (pageOf s)) p) p
@@ -104,7 +93,7 @@ pageBufferOf s r p = cond (eqb (numberOf r) 0) (pageOf s ++ drop (length (pageOf
 -- For the note s, the definition table t, the span table u and the page buffer p, the page writer answers r and leaves s′, t′, u′ and p′.
 pub record Promise (s t u p : List ℕ) (r : Rendering) (s′ t′ u′ p′ : List ℕ) : Type 0 where
   pub answer : r ≡ renderingOf s (definitionTable.wholeRows t) (spanTable.wholeRows u) (length p)
-  pub definitions : t′ ≡ definitionTableOf s r t
-  pub spans : u′ ≡ spanTableOf s r u
+  pub definitions : t′ ≡ definitionTableOf s (numberOf r) t
+  pub spans : u′ ≡ spanTableOf s (numberOf r) u
   pub page : p′ ≡ pageBufferOf s r p
   pub note : s′ ≡ s

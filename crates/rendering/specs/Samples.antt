@@ -28,10 +28,10 @@ use Rattle.note.specs.Reading.{labels, rowsIn, spanRows, deepIn, firstDeep}
 use Rattle.html.specs.Page.{escaped, stays, hexDigit, hrefByte}
 use Rattle.html.specs.Reading.{undone, margin, titleAttribute, linkOpen}
 use Rattle.page.specs.Reading.{firstRow, writtenBy, contentFrom, paragraphPage, pageBy, pageOf}
-use Rattle.notice.specs.Reader.{readingOf}
+use Rattle.notice.specs.Reader.{readingOf, definitionTableOf, spanTableOf}
 use Rattle.rendering.specs.declared.Rendering.{Rendering}
 use Rattle.rendering.specs.declared.Rendering.the-variants.{Rendered, FewDefinitions, FewSpans, ShortPage}
-use Rattle.rendering.specs.Renderer.{renderingOf, definitionTableOf, spanTableOf, pageBufferOf}
+use Rattle.rendering.specs.Renderer.{numberOf, renderingOf, pageBufferOf}
 
 -- a note and what is lent; the answer, and what then stands in the tables and the page buffer
 pub record Sample : Type 0 where
@@ -97,8 +97,8 @@ rendered x =
       lent-spans = x .lent-spans;
       lent-page = x .lent-page;
       answer = r;
-      definitions = definitionTableOf (x .note) r (x .lent-definitions);
-      spans = spanTableOf (x .note) r (x .lent-spans);
+      definitions = definitionTableOf (x .note) (numberOf r) (x .lent-definitions);
+      spans = spanTableOf (x .note) (numberOf r) (x .lent-spans);
       page = pageBufferOf (x .note) r (x .lent-page);
     }
 

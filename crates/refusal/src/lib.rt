@@ -1,0 +1,1 @@
+// No function: what the answers of the entries have in common is in specs/.
