@@ -2,37 +2,42 @@
 
 #![allow(unsafe_code)]
 
-extern "C" {
-    fn notice_read(
-        note: *const u8,
-        note_len: usize,
-        definitions: *mut u32,
-        definitions_len: usize,
-        spans: *mut u32,
-        spans_len: usize,
-        answer: *mut [u64; 3],
-    ) -> u32;
+/// The declarations themselves: a slice is a pointer and a length.
+pub mod raw {
+    extern "C" {
+        pub fn notice_read(
+            note: *const u8,
+            note_len: usize,
+            definitions: *mut u32,
+            definitions_len: usize,
+            spans: *mut u32,
+            spans_len: usize,
+            answer: *mut [u64; 3],
+        ) -> u32;
 
-    fn notice_render(
-        note: *const u8,
-        note_len: usize,
-        definitions: *mut u32,
-        definitions_len: usize,
-        spans: *mut u32,
-        spans_len: usize,
-        page: *mut u8,
-        page_len: usize,
-        answer: *mut [u64; 4],
-    ) -> u32;
+        pub fn notice_render(
+            note: *const u8,
+            note_len: usize,
+            definitions: *mut u32,
+            definitions_len: usize,
+            spans: *mut u32,
+            spans_len: usize,
+            page: *mut u8,
+            page_len: usize,
+            answer: *mut [u64; 4],
+        ) -> u32;
 
-    fn notice_resolve(
-        note: *const u8,
-        note_len: usize,
-        label: *const u8,
-        label_len: usize,
-        answer: *mut [u64; 3],
-    ) -> u32;
+        pub fn notice_resolve(
+            note: *const u8,
+            note_len: usize,
+            label: *const u8,
+            label_len: usize,
+            answer: *mut [u64; 3],
+        ) -> u32;
+    }
 }
+
+use raw::{notice_read, notice_render, notice_resolve};
 
 /// What the reader answers.
 #[derive(Clone, Copy, Debug, PartialEq, Eq)]

@@ -1,32 +1,25 @@
 //! Prints what the second reader answers for each case of the container that the program `samples`
 //! is run on (crates/samples/stdin), in the program's own format: the file crates/samples/stdout.
 //!
-//! The container is named as the argument, or is standard input. A case is a header line of four
-//! numbers of six digits (numbers lent to the definition table, numbers lent to the span table,
-//! bytes lent to the page, bytes of the note), the note, and a line end.
+//! The argument names the container; `host::container` says what it looks like.
 
-use std::io::{Error, Read, Write};
+use std::io::{Error, Write};
 use std::process::ExitCode;
 
+use host::container::{cases, Case};
 use host::second;
 
 /// What each lent number holds before the call.
 const GUARD: u32 = 99_999;
 /// What each byte of the page holds before the call: no byte of a note or a page.
 const PAGE_GUARD: u8 = 13;
-/// The length of a header line with its line end.
-const HEADER: usize = 28;
-
-/// One case of the container.
-struct Case<'a> {
-    definition_numbers: usize,
-    span_numbers: usize,
-    page_bytes: usize,
-    note: &'a [u8],
-}
 
 fn main() -> ExitCode {
-    match container(std::env::args().nth(1)).and_then(|bytes| print(&bytes)) {
+    let Some(file) = std::env::args_os().nth(1) else {
+        eprintln!("usage: cases FILE");
+        return ExitCode::from(2);
+    };
+    match std::fs::read(file).and_then(|bytes| print(&bytes)) {
         Ok(code) => code,
         Err(error) => {
             eprintln!("cases: {error}");
@@ -35,56 +28,21 @@ fn main() -> ExitCode {
     }
 }
 
-/// The container's bytes.
-fn container(file: Option<String>) -> Result<Vec<u8>, Error> {
-    match file {
-        Some(file) => std::fs::read(file),
-        None => {
-            let mut bytes = Vec::new();
-            std::io::stdin().read_to_end(&mut bytes)?;
-            Ok(bytes)
-        }
-    }
-}
-
-/// Prints every case, or the first place where the container is none.
+/// Prints every case, unless the container is none.
 fn print(bytes: &[u8]) -> Result<ExitCode, Error> {
     let mut out = std::io::BufWriter::new(std::io::stdout().lock());
-    let mut rest = bytes;
-    let mut index = 1;
-    while !rest.is_empty() {
-        let Some((case, after)) = next_case(rest) else {
-            eprintln!("cases: bad container at case {index}");
+    let cases = match cases(bytes) {
+        Ok(cases) => cases,
+        Err(good) => {
+            eprintln!("cases: bad container after case {good}");
             return Ok(ExitCode::FAILURE);
-        };
-        print_case(&mut out, index, &case)?;
-        rest = after;
-        index += 1;
+        }
+    };
+    for (index, case) in cases.iter().enumerate() {
+        print_case(&mut out, index + 1, case)?;
     }
     out.flush()?;
     Ok(ExitCode::SUCCESS)
-}
-
-/// The first case, and what comes after it.
-fn next_case(bytes: &[u8]) -> Option<(Case<'_>, &[u8])> {
-    let line = std::str::from_utf8(bytes.get(..HEADER)?).ok()?;
-    let numbers: Vec<usize> = line
-        .strip_suffix('\n')?
-        .split(' ')
-        .map(|digits| digits.parse().ok())
-        .collect::<Option<_>>()?;
-    let &[definition_numbers, span_numbers, page_bytes, length] = numbers.as_slice() else {
-        return None;
-    };
-    let (note, after) = bytes[HEADER..].split_at_checked(length)?;
-    let after = after.strip_prefix(b"\n")?;
-    let case = Case {
-        definition_numbers,
-        span_numbers,
-        page_bytes,
-        note,
-    };
-    Some((case, after))
 }
 
 /// What the reader and the page writer answer, and what they leave.

@@ -3,40 +3,9 @@
 
 #![allow(unsafe_code)]
 
+use host::entries::raw::{notice_read, notice_render, notice_resolve};
 use host::second;
 use std::ptr::{null, null_mut};
-
-extern "C" {
-    fn notice_read(
-        note: *const u8,
-        note_len: usize,
-        definitions: *mut u32,
-        definitions_len: usize,
-        spans: *mut u32,
-        spans_len: usize,
-        answer: *mut [u64; 3],
-    ) -> u32;
-
-    fn notice_render(
-        note: *const u8,
-        note_len: usize,
-        definitions: *mut u32,
-        definitions_len: usize,
-        spans: *mut u32,
-        spans_len: usize,
-        page: *mut u8,
-        page_len: usize,
-        answer: *mut [u64; 4],
-    ) -> u32;
-
-    fn notice_resolve(
-        note: *const u8,
-        note_len: usize,
-        label: *const u8,
-        label_len: usize,
-        answer: *mut [u64; 3],
-    ) -> u32;
-}
 
 /// No number of any answer.
 const GUARD: u64 = u64::MAX;

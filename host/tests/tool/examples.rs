@@ -47,13 +47,15 @@ fn pages() {
         let page = run(&["page", &file]).good();
         assert_eq!(page, stored(&format!("{name}.page.html")), "{name}");
         let standalone = run(&["page", "--standalone", &file]).good();
-        assert_eq!(
-            standalone,
-            stored(&format!("{name}.standalone.html")),
-            "{name}"
-        );
         assert!(standalone.contains(&page), "{name}");
+        assert!(standalone.contains(&format!("<title>{file}</title>")));
     }
+}
+
+#[test]
+fn a_whole_document() {
+    let standalone = run(&["page", "--standalone", "max.md"]).good();
+    assert_eq!(standalone, stored("max.standalone.html"));
 }
 
 #[test]
