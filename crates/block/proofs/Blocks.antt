@@ -13,7 +13,7 @@ use Rattle.block.specs.Line.{Lines, none, Blank}
 use Rattle.block.specs.Block.{Placed, joined, AllOther, none, more, Over, end, blank, Blocks, block, BlocksOf}
 use Rattle.block.specs.Reading.{blankLine, blockRest, blockLength, partLength, blockHere, blocks}
 use Rattle.block.proofs.Lines.{Starts, starts, no-lines, blank-iff, other-line, block-first, size, back, lines-of}
-use Rattle.block.proofs.Parts.{leap-blank, leap-block}
+use Rattle.block.proofs.Parts.{fresh-over, fresh-on, leap-blank, leap-block}
 
 -- ---- a run of lines at the front of a text
 pub record Run (s : List ℕ) (run rest : List (List ℕ)) : Type 0 where
@@ -35,16 +35,6 @@ starts-other : {s l : List ℕ} {ls : List (List ℕ)} → Starts s l ls → (Bl
 starts-other f n = rw (f .whole) (other-line (f .is-line) n)
 
 -- ---- how far a block goes
-fresh-over : (s : List ℕ) → blankLine s ≡ true → blockRest true s ≡ 0
-unfolding blockRest
-fresh-over [] e = refl
-fresh-over (b ∷ s) e = rw (e, blockRest)
-
-fresh-on : (s : List ℕ) → blankLine s ≡ false → blockRest true s ≡ blockRest false s
-unfolding blockRest
-fresh-on [] e = refl
-fresh-on (b ∷ s) e = rw (e, blockRest)
-
 over-zero : {s : List ℕ} {rest : List (List ℕ)} → Over rest → Lines s rest → blockRest true s ≡ 0
 unfolding blockRest
 over-zero end p = rw (no-lines p)

@@ -1,7 +1,7 @@
 -- Blank lines and blocks, by reading from the front.
 use Prim.Native.Nat.{ℕ, suc, _+_, _≤_, _<_}
 use native.Mathlib.Omega.{arith}
-use mathlib.Core.Path.{_≡_, sym, _∙_}
+use mathlib.Core.Path.{_≡_, sym}
 use mathlib.Core.List.{List, [], _∷_}
 use mathlib.Core.Bool.{Bool, true, false, cond, _&&_, _||_}
 use borrow.Author.Tests.{eq-eqb, ne-eqb}
@@ -69,16 +69,3 @@ module _ (s : List ℕ) (i : ℕ) {r : ℕ} where
   pub line-done : i + lineLength (drop i s) ≡ r → length s ≤ i → i ≡ r
   unfolding lineLength
   line-done inv h = let q = rw (drop-of-length-le s h) at inv in omega arith
-
-module _ (s : List ℕ) (i : ℕ) (fresh : Bool) {r : ℕ} where
-  pub block-on : i + blockRest fresh (drop i s) ≡ r → i < length s → (fresh && blankLine (drop i s)) ≡ false → (i + 1) + blockRest (eqb (getD s i 0) 10) (drop (i + 1) s) ≡ r
-  unfolding blockRest
-  block-on inv h n = let q = rw (at-cons s i h, rw (at-cons s i h) at n, blockRest) at inv in omega arith
-
-  pub block-stop : {p : Bool} → i + blockRest fresh (drop i s) ≡ r → i < length s → fresh ≡ true → p ≡ blankLine (drop i s) → p ≡ true → i ≡ r
-  unfolding blockRest
-  block-stop inv h f e k = let q = rw (at-cons s i h, f, rw (at-cons s i h) at (sym e ∙ k), blockRest) at inv in omega arith
-
-  pub block-done : i + blockRest fresh (drop i s) ≡ r → length s ≤ i → i ≡ r
-  unfolding blockRest
-  block-done inv h = let q = rw (drop-of-length-le s h) at inv in omega arith

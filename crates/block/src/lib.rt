@@ -35,11 +35,11 @@ pub fn blank_line(s: &[u8], at: usize) -> bool
     line_ends(s, past_padding(s, at))
 }
 
-// Past the line that starts at `at`, and its LF.
+// Past the line that starts at `at`, and its LF. Long stretches without an LF are passed by strides.
 pub fn line_end(s: &[u8], at: usize) -> usize
     ensures { λ r. ⌜ r ≡ at + lineLength (drop at (now (s .entry))) ⌝ }
 {
-    let mut i = at;
+    let mut i = scan::past_strides(s, at, 255, 10, 10, 10);
     while i < s.len() {
         if s[i] == 10 {
             return i + 1;
@@ -53,16 +53,12 @@ pub fn line_end(s: &[u8], at: usize) -> usize
 pub fn block_end(s: &[u8], at: usize) -> usize
     ensures { λ r. ⌜ r ≡ at + blockLength (drop at (now (s .entry))) ⌝ }
 {
-    let mut i = at;
-    let mut fresh = false;
+    let mut i = line_end(s, at);
     while i < s.len() {
-        if fresh {
-            if blank_line(s, i) {
-                return i;
-            }
+        if blank_line(s, i) {
+            return i;
         }
-        fresh = s[i] == 10;
-        i += 1;
+        i = line_end(s, i);
     }
     i
 }

@@ -1,6 +1,8 @@
 pub mod Writing
+pub mod Copying
 pub mod Bytes
 pub mod Undone
+pub mod AsIs
 pub mod Margin
 pub mod Link
 pub mod Escapes

@@ -8,6 +8,7 @@ use mathlib.Core.Bool.{Bool, true, false, true≢false}
 use lib.ListN.{length, getD, drop, drop-of-length-le}
 use lib.Seq.{getD-drop}
 use lib.Dec.{eqb}
+use borrow.Author.Tests.{ne-eqb}
 use Rattle.scan.specs.Test.{by, and-right}
 use Rattle.scan.specs.Byte.{punctuation, escapes, peek-inside}
 use Rattle.scan.specs.Scan.{at-cons}
@@ -21,6 +22,10 @@ pub undone-byte : (b : ℕ) (s : List ℕ) → escapes (b ∷ s) ≡ false → u
 unfolding undone
 undone-byte b [] e = refl
 undone-byte b (p ∷ s) e = subst (λ (t : Bool). elim t [ true ↦ p ∷ undone s | false ↦ b ∷ undone (p ∷ s) ] ≡ b ∷ undone (p ∷ s)) (sym e) refl
+
+-- no escape stands where there is no backslash
+pub no-escape : (s : List ℕ) (i : ℕ) → (getD s i 0 ≡ 92 → ⊥) → escapes (drop i s) ≡ false
+no-escape s i n = rw (getD-drop i s 0 0, add-zero i, ne-eqb (getD s i 0) 92 n) refl
 
 -- both bytes of an escape stand within the list
 escape-inside : (s : List ℕ) (i : ℕ) → escapes (drop i s) ≡ true → i + 1 < length s

@@ -22,13 +22,13 @@ pub sets-append : (l : List ℕ) (i : ℕ) (u v : List ℕ) → sets l i (u ++ v
 sets-append l i [] v = rw add-zero
 sets-append l i (x ∷ u) v = sets-append _ (suc i) u v ∙ rw (suc-add, add-suc)
 
-sets-nowhere : (n : ℕ) (w : List ℕ) → sets [] n w ≡ []
-sets-nowhere n [] = refl
-sets-nowhere n (b ∷ w) = sets-nowhere (suc n) w
+sets-past : (l : List ℕ) (n : ℕ) (w : List ℕ) → length l ≤ n → sets l n w ≡ l
+sets-past l n [] h = refl
+sets-past l n (b ∷ w) h = ap (λ (x : List ℕ). sets x (suc n) w) (set-out l n b h) ∙ sets-past l (suc n) w (omega arith)
 
 -- an empty page only measures
 pub measured : {w after : List ℕ} {n r : ℕ} → Writes [] n w after r → after ≡ []
-measured {w} {n = n} h = h .stored ∙ sets-nowhere n w
+measured {w} {n = n} h = h .stored ∙ sets-past [] n w (omega arith)
 
 pub same-length : {page w after : List ℕ} {n r : ℕ} → Writes page n w after r → length after ≡ length page
 same-length {page} {w} {n = n} h = ap length (h .stored) ∙ length-sets page n w
@@ -63,6 +63,10 @@ onward {page = page} {u = u} {v = v} {k = k} l e w =
 -- nothing is left to write
 pub done : {page₀ whole page rest : List ℕ} {n k : ℕ} → Leads page₀ n whole page k rest → rest ≡ [] → Writes page₀ n whole page k
 done l e = record { size = omega (arith, l .size, ap length e); stored = rw e at (l .stored) }
+
+-- nothing that is left to write fits
+pub done-past : {page₀ whole page rest : List ℕ} {n k : ℕ} → Leads page₀ n whole page k rest → length page ≤ k → Writes page₀ n whole page (n + length whole)
+done-past {page = page} {rest = rest} {k = k} l h = record { size = refl; stored = sym (sets-past page k rest h) ∙ l .stored }
 
 -- what is next ends where the whole does, or before
 pub room : {page₀ whole page rest : List ℕ} {n k m : ℕ} (u v : List ℕ) → Leads page₀ n whole page k rest → rest ≡ u ++ v → n + length whole ≤ m

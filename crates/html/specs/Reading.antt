@@ -2,7 +2,7 @@
 use Prim.Native.Nat.{ℕ, _-_}
 use mathlib.Core.List.{List, [], _∷_, _++_, map, flatMap}
 use mathlib.Core.Option.{Option, none, some}
-use mathlib.Core.Bool.{Bool, true, false, cond, _&&_, _||_}
+use mathlib.Core.Bool.{Bool, true, false, cond, not, _&&_, _||_}
 use lib.ListN.{length, getD, take, drop}
 use lib.Dec.{eqb, ltb}
 use Rattle.scan.specs.Ascii.{ascii}
@@ -19,6 +19,10 @@ undone (b ∷ p ∷ s) = elim (escapes (b ∷ p ∷ s)) [ true ↦ p ∷ undone 
 -- how many bytes stand before the first byte that s gives: the backslash of an escape
 abbrev pub backslash : List ℕ → ℕ
 backslash s = cond (escapes s) 1 0
+
+-- bytes other than `mark` that are not escaped: with 92 they stand for themselves in text, with 10 in code
+abbrev pub asIs : ℕ → ℕ → Bool
+asIs mark b = not (eqb b 38 || eqb b 60 || eqb b 62 || eqb b 34 || eqb b mark)
 
 abbrev pub textOf : List ℕ → List ℕ
 textOf l = flatMap escaped (undone l)

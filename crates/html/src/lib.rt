@@ -4,10 +4,10 @@ ghost use mathlib.Core.Path.{_≡_};
 ghost use mathlib.Core.List.{[], _∷_, map, flatMap};
 ghost use lib.ListN.{length, drop};
 ghost use Prim.Native.Nat.{_+_, _≤_, _<_};
-ghost use Rattle.scan.specs.Scan.{run};
+ghost use Rattle.scan.specs.Scan.{run, past};
 ghost use Rattle.html.specs.Page.{escaped, stays, hexDigit, percent, hrefByte, spaced};
-ghost use Rattle.html.specs.Reading.{backslash, textOf, hrefOf, spaceOrLf, margin, codeOf, codeSpan, titleAttribute, linkOpen};
-ghost use Rattle.html.specs.Stored.{pageMost, Writes};
+ghost use Rattle.html.specs.Reading.{backslash, asIs, textOf, hrefOf, spaceOrLf, margin, codeOf, codeSpan, titleAttribute, linkOpen};
+ghost use Rattle.html.specs.Stored.{pageMost, fits, Writes};
 
 // One byte.
 pub fn put_byte(page: &mut [u8], n: usize, b: u8) -> usize
@@ -20,18 +20,32 @@ pub fn put_byte(page: &mut [u8], n: usize, b: u8) -> usize
     n + 1
 }
 
+// How many of `count` bytes fit into a page of `most` bytes from `n` on.
+fn fitting(most: usize, n: usize, count: usize) -> usize
+    requires { ⌜ n + count ≤ pageMost ⌝ }
+    ensures { λ r. ⌜ r ≡ fits most n count ⌝ }
+{
+    if n + count <= most {
+        return count;
+    }
+    if n < most {
+        return most - n;
+    }
+    0
+}
+
 // Bytes as they are.
 pub fn put(page: &mut [u8], n: usize, text: &[u8]) -> usize
     requires { ⌜ n + length (now text) ≤ pageMost ⌝ }
     ensures { λ r. ⌜ Writes (now (page .entry)) n (now (text .entry)) (now (page .exit)) r ⌝ }
 {
-    let mut k = n;
+    let room = fitting(page.len(), n, text.len());
     let mut i = 0;
-    while i < text.len() {
-        k = put_byte(page, k, text[i]);
+    while i < room {
+        page[n + i] = text[i];
         i += 1;
     }
-    k
+    n + text.len()
 }
 
 // A byte of text, of code or of a title.
@@ -55,12 +69,35 @@ pub fn put_escaped(page: &mut [u8], n: usize, b: u8) -> usize
 }
 
 // The place of the byte that stands at `i` once escapes are undone.
-fn past_backslash(s: &[u8], i: usize) -> usize
+pub fn past_backslash(s: &[u8], i: usize) -> usize
     requires { ⌜ i < length (now s) ⌝ }
     ensures { λ r. ⌜ r ≡ i + backslash (drop i (now (s .entry))) ⌝ }
 {
-    if scan::escape_at(s, i) {
-        return i + 1;
+    if s[i] == b'\\' {
+        if scan::escape_at(s, i) {
+            return i + 1;
+        }
+    }
+    i
+}
+
+// Whether a byte is neither escaped nor `mark`.
+fn stands_as_is(b: u8, mark: u8) -> bool
+    ensures { λ r. ⌜ r ≡ asIs mark b ⌝ }
+{
+    !((b == b'&') | (b == b'<') | (b == b'>') | (b == b'"') | (b == mark))
+}
+
+// The first place from `at` on where `mark` or a byte that is escaped stands; the end is one.
+pub fn as_is_end(s: &[u8], at: usize, mark: u8) -> usize
+    ensures { λ r. ⌜ r ≡ past (asIs mark) (now (s .entry)) at ⌝ }
+{
+    let mut i = at;
+    while i < s.len() {
+        if !stands_as_is(s[i], mark) {
+            return i;
+        }
+        i += 1;
     }
     i
 }
@@ -72,12 +109,16 @@ pub fn put_text(page: &mut [u8], n: usize, s: &[u8]) -> usize
 {
     let mut k = n;
     let mut i = 0;
-    while i < s.len() {
-        let j = past_backslash(s, i);
+    loop {
+        let to = as_is_end(s, i, b'\\');
+        k = put(page, k, &s[i..to]);
+        if to == s.len() {
+            return k;
+        }
+        let j = past_backslash(s, to);
         k = put_escaped(page, k, s[j]);
         i = j + 1;
     }
-    k
 }
 
 // Whether a byte stays as it is in an href.
@@ -210,11 +251,15 @@ fn put_code_bytes(page: &mut [u8], n: usize, s: &[u8]) -> usize
 {
     let mut k = n;
     let mut i = 0;
-    while i < s.len() {
-        k = put_escaped(page, k, spaced_byte(s[i]));
-        i += 1;
+    loop {
+        let to = as_is_end(s, i, b'\n');
+        k = put(page, k, &s[i..to]);
+        if to == s.len() {
+            return k;
+        }
+        k = put_escaped(page, k, spaced_byte(s[to]));
+        i = to + 1;
     }
-    k
 }
 
 // The content of a code span, between its tags.
@@ -247,7 +292,7 @@ fn put_title_attribute(page: &mut [u8], n: usize, title: &[u8]) -> usize
     }
     let mut k = put(page, n, b" title=\"");
     k = put_text(page, k, title);
-    put(page, k, b"\"")
+    put_byte(page, k, b'"')
 }
 
 // The opening tag of a link. An absent title is lent as an empty one.
@@ -257,7 +302,7 @@ pub fn put_link_open(page: &mut [u8], n: usize, destination: &[u8], title: &[u8]
 {
     let mut k = put(page, n, b"<a href=\"");
     k = put_href(page, k, destination);
-    k = put(page, k, b"\"");
+    k = put_byte(page, k, b'"');
     k = put_title_attribute(page, k, title);
-    put(page, k, b">")
+    put_byte(page, k, b'>')
 }

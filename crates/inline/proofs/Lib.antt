@@ -1,3 +1,4 @@
+pub mod Plain
 pub mod Ticks
 pub mod CodeSpans
 pub mod Starting

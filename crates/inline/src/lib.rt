@@ -38,14 +38,24 @@ pub fn backticks_end(s: &[u8], at: usize) -> usize
     i
 }
 
-// The first place from `at` on where a bracket, a backtick or a backslash stands; the end is one.
+// Whether `b` starts plain text: it is no bracket, backtick or backslash.
+fn is_quiet(b: u8) -> bool
+    ensures { λ r. ⌜ r ≡ quiet b ⌝ }
+{
+    !((b == 96) | (b == 91) | (b == 93) | (b == 92))
+}
+
+// The first place from `at` on where a bracket, a backtick or a backslash stands; the end is one. Long plain text is passed by
+// strides, and none are tried where no plain text starts.
 pub fn plain_end(s: &[u8], at: usize) -> usize
     ensures { λ r. ⌜ r ≡ past quiet (now (s .entry)) at ⌝ }
 {
-    let mut i = at;
+    if !is_quiet(scan::peek(s, at)) {
+        return at;
+    }
+    let mut i = scan::past_strides(s, at, 255, 91, 93, 96);
     while i < s.len() {
-        let b = s[i];
-        if (b == 96) | (b == 91) | (b == 93) | (b == 92) {
+        if !is_quiet(s[i]) {
             return i;
         }
         i += 1;

@@ -5,6 +5,7 @@ ghost use Rattle.scan.specs.Scan.{past};
 ghost use Rattle.matching.specs.Form.{fold};
 ghost use Rattle.matching.specs.Reading.{matches};
 ghost use Rattle.matching.specs.Turn.{gap, agree};
+ghost use Rattle.matching.specs.Quick.{unlike, same};
 
 // A to Z as a to z.
 fn folded(b: u8) -> u8
@@ -42,10 +43,31 @@ fn gap_before(i: usize, p: usize) -> bool
 pub fn agree_at(a: &[u8], b: &[u8], i: usize, j: usize, p: usize, q: usize) -> bool
     ensures { λ r. ⌜ r ≡ agree (now (a .entry)) (now (b .entry)) i j p q ⌝ }
 {
+    if folded(scan::peek(a, p)) != folded(scan::peek(b, q)) {
+        return false;
+    }
     let over = a.len() <= p;
     let level = gap_before(i, p) == gap_before(j, q);
-    let same = folded(scan::peek(a, p)) == folded(scan::peek(b, q));
-    (over == (b.len() <= q)) & (over | level & same)
+    (over == (b.len() <= q)) & (over | level)
+}
+
+// Whether two bytes show that the labels that they begin are not equal: no blanks, and unlike when folded.
+pub fn are_unlike(x: u8, y: u8) -> bool
+    ensures { λ r. ⌜ r ≡ unlike x y ⌝ }
+{
+    (32 < x) & (32 < y) & (folded(x) != folded(y))
+}
+
+// Whether one and the same byte, no blank, stands at `i` and at `j`.
+pub fn same_at(a: &[u8], b: &[u8], i: usize, j: usize) -> bool
+    ensures { λ r. ⌜ r ≡ same (now (a .entry)) (now (b .entry)) i j ⌝ }
+{
+    if (a.len() <= i) | (b.len() <= j) {
+        return false;
+    }
+    let x = a[i];
+    let y = b[j];
+    (x == y) & (32 < x)
 }
 
 // Whether two labels are equal.

@@ -110,18 +110,26 @@ pub fn lookup(note: &[u8], table: &[u32], count: usize, label: &[u8]) -> Found
     requires { ⌜ Fit (now note) (now table) count ⌝ }
     ensures { λ r. ⌜ r ≡ rowOf (now (note .entry)) (now (table .entry)) (now (label .entry)) count ⌝ }
 {
+    let first = scan::peek(label, 0);
     let mut k = 0;
     'rows: loop {
         if count <= k {
             break Found::Nothing;
         }
-        let part = range_at(table, k * Definition::WIDTH);
-        let start = part.start;
-        let end = part.end;
+        let Range { start, end } = range_at(table, k * Definition::WIDTH);
         let own = &note[start..end];
+        if matching::are_unlike(scan::peek(own, 0), first) {
+            k += 1;
+            continue 'rows;
+        }
         let mut i = 0;
         let mut j = 0;
         loop {
+            if matching::same_at(own, label, i, j) {
+                i += 1;
+                j += 1;
+                continue;
+            }
             let p = matching::past_blanks(own, i);
             let q = matching::past_blanks(label, j);
             if !matching::agree_at(own, label, i, j, p, q) {

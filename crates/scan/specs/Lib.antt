@@ -3,6 +3,7 @@ pub mod Byte
 pub mod Scan
 pub mod Every
 pub mod Leap
+pub mod Stride
 pub mod Closing
 pub mod Ascii
 pub mod Samples

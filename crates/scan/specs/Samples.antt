@@ -1,11 +1,13 @@
--- The first unescaped delimiter, by computation.
+-- The first unescaped delimiter and whole strides, by computation.
+use Prim.Native.Nat.{ℕ}
 use Prim.Native.String.{String}
 use mathlib.Core.Path.{_≡_, refl}
 use mathlib.Core.List.{List, [], _∷_}
 use mathlib.Core.Bool.{Bool, true, false, _&&_}
 use lib.Dec.{eqb}
 use Rattle.scan.specs.Ascii.{ascii}
-use Rattle.scan.specs.Scan.{scan}
+use Rattle.scan.specs.Scan.{scan, run}
+use Rattle.scan.specs.Stride.{clear, pastStrides}
 use Rattle.scan.specs.Closing.{closingStep, closing}
 use Rattle.scan.specs.declared.Found.{Found}
 use Rattle.scan.specs.declared.Found.the-variants.{At, Nothing}
@@ -44,3 +46,18 @@ hold (s ∷ more) = same (closing 93 91 93 (ascii (s .text)) 0) (s .answer) && h
 pub samples-hold : hold samples ≡ true
 unfolding scan closingStep closing
 samples-hold = refl
+
+-- strides of bytes other than a to c, z and those past y; the text has 40 bytes
+abbrev pub strided : String → ℕ → ℕ
+strided s at = pastStrides (clear 121 97 99 122) (ascii s) at
+
+pub strides-hold :
+    (strided "................................_______." 0 ≡ 32)
+    × (strided "................................_______." 8 ≡ 40)
+    × (strided "................................_______." 9 ≡ 25)
+    × (strided "...............z........................" 0 ≡ 0)
+    × (strided "................b......................." 0 ≡ 16)
+    × (strided "...............................{........" 0 ≡ 16)
+    × (strided "................" 16 ≡ 16)
+unfolding run pastStrides
+strides-hold = (refl, refl, refl, refl, refl, refl, refl)

@@ -7,6 +7,7 @@ use mathlib.Core.Path.{_≡_, sym, ap, _∙_}
 use mathlib.Core.List.{List, [], _∷_}
 use lib.ListN.{length, getD, drop, drop-of-length-le}
 use lib.Seq.{drop-cons}
+use Rattle.scan.specs.Test.{by}
 
 pub data Step (S A : Type 0) : Type 0 where
   stop : A → Step S A
@@ -75,6 +76,11 @@ module _ (test : ℕ → Bool) where
   pub run-no : (b : ℕ) (s : List ℕ) → test b ≡ false → run (b ∷ s) ≡ 0
   unfolding run
   run-no b s e = rw (e, run)
+
+  pub run-fits : (s : List ℕ) → run s ≤ length s
+  unfolding run
+  run-fits [] = omega arith
+  run-fits (b ∷ s) = by (test b) (λ e. omega (arith, run-yes b s e, run-fits s)) (λ e. omega (arith, run-no b s e))
 
   -- the first place from i on whose byte does not pass, or the end
   unfoldable pub past : List ℕ → ℕ → ℕ

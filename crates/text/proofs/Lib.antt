@@ -2,6 +2,7 @@ pub mod Below
 pub mod Rows
 pub mod ByOnes
 pub mod Steps
+pub mod Ascii
 pub mod Table
 pub mod Character
 pub mod FirstBad

@@ -7,6 +7,7 @@ use mathlib.Core.Bool.{Bool, true, false, cond, _&&_, _||_}
 use lib.Dec.{eqb, ltb}
 use lib.ListN.{length, getD}
 use Rattle.scan.specs.Byte.{within}
+use Rattle.scan.specs.Stride.{clear, pastStrides}
 use Rattle.scan.specs.declared.Found.{Found}
 use Rattle.scan.specs.declared.Found.the-variants.{At, Nothing}
 use Rattle.text.specs.declared.Checked.{Checked}
@@ -94,6 +95,14 @@ unfoldable pub goodLength : List ℕ → ℕ
 goodLength s = cond (barred (getD s 0 0)) 0 (characterLength s)
 
 -- ---- the first place where no good character starts
+
+-- a byte that is a good character by itself
+abbrev pub goodAscii : ℕ → Bool
+goodAscii b = clear 127 13 13 0 b
+
+-- past whole strides of such bytes, at every sixteenth place
+unfoldable pub pastAscii : List ℕ → ℕ → ℕ
+pastAscii s at = elim (eqb (at % 16) 0) [ true ↦ pastStrides goodAscii s at | false ↦ at ]
 
 -- the same where the first k bytes of s, which stands at place `at`, are passed unread
 unfoldable pub firstBadPast : ℕ → List ℕ → ℕ → Found

@@ -1,7 +1,7 @@
 // Well-formed UTF-8, the note's length limit, and counting characters.
 ghost use mathlib.Core.Path.{_≡_};
 ghost use lib.ListN.{drop};
-ghost use Rattle.text.specs.Reading.{leadingOnes, sequenceLength, characterLength, goodLength, firstBad, checkOf};
+ghost use Rattle.text.specs.Reading.{leadingOnes, sequenceLength, characterLength, goodLength, pastAscii, firstBad, checkOf};
 ghost use Rattle.text.specs.Lead.{lead, least, most, second, continuation};
 use scan::Found;
 
@@ -111,17 +111,28 @@ fn good_length(s: &[u8], at: usize) -> usize
     character_length(s, at)
 }
 
+// Past whole strides of bytes that are good characters each. They are looked for at every sixteenth place only, so that other
+// text costs little more.
+fn past_ascii(s: &[u8], at: usize) -> usize
+    ensures { λ r. ⌜ r ≡ pastAscii (now (s .entry)) at ⌝ }
+{
+    if at % 16 == 0 {
+        return scan::past_strides(s, at, 127, 13, 13, 0);
+    }
+    at
+}
+
 // The first place where no good character starts.
 pub fn first_bad(s: &[u8]) -> Found
     ensures { λ r. ⌜ r ≡ firstBad (now (s .entry)) 0 ⌝ }
 {
-    let mut i = 0;
+    let mut i = past_ascii(s, 0);
     while i < s.len() {
         let n = good_length(s, i);
         if n == 0 {
             return Found::At(i);
         }
-        i += n;
+        i = past_ascii(s, i + n);
     }
     Found::Nothing
 }

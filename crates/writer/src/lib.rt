@@ -103,21 +103,21 @@ fn write_text(note: &[u8], end: usize, stop: usize, p: Pass, page: &mut [u8]) ->
     ensures { λ r. ⌜ Passes (now (note .entry)) end p (now (page .entry)) r (now (page .exit)) ⌝ }
 {
     let text = &note[..end];
-    let mut at = p.at;
-    let mut size = p.size;
-    while at < stop {
-        if scan::escape_at(text, at) {
-            at += 1;
+    let plain = &note[..stop];
+    let mut w = p;
+    while w.at < stop {
+        let at = w.at;
+        let to = html::as_is_end(plain, at, b'\\');
+        w.size = html::put(page, w.size, &plain[at..to]);
+        w.at = to;
+        if to == stop {
+            return w;
         }
-        size = html::put_escaped(page, size, text[at]);
-        at += 1;
+        let j = html::past_backslash(text, to);
+        w.size = html::put_escaped(page, w.size, text[j]);
+        w.at = j + 1;
     }
-    Pass {
-        at,
-        code: p.code,
-        link: p.link,
-        size,
-    }
+    w
 }
 
 // What is next in a paragraph that ends at `end`: what a row calls for, or text up to where a row does.

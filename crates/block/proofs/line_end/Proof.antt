@@ -1,19 +1,23 @@
--- Each turn is a byte of the line.
+-- A stride is within the line, and each turn is a byte of it.
 use borrow.Author.Needs.{needs}
 use mathlib.Core.Path.{_≡_}
 use Prim.Native.Nat.{_+_, _-_}
 use lib.ListN.{length, drop}
 use Rattle.block.specs.Reading.{lineLength, line-on, line-stop, line-done}
+use Rattle.block.proofs.Parts.{line-strides}
 use Rattle.block.proofs.line_end.Statement.{statement}
 use Rattle.block.proofs.line_end.Tie as tie
 
-ruleset turns = (line-on, line-stop, line-done, needs)
+ruleset turns = (line-strides, line-on, line-stop, line-done, needs)
 
 abbrev Inv-loop : tie.InvT-loop
 Inv-loop s at i₀ i = i + lineLength (drop i s) ≡ at + lineLength (drop at s)
 
 abbrev μ-loop : tie.MeasureT-loop
 μ-loop s at i₀ i = length s - i
+
+past-strides-requires : tie.Need-past-strides-requires Inv-loop μ-loop
+past-strides-requires c κs = search turns
 
 loop-holds : tie.Need-loop-holds Inv-loop μ-loop
 loop-holds c = search turns
@@ -45,6 +49,7 @@ line-end-spec =
     (tie.spec
     Inv-loop
     μ-loop
+    past-strides-requires
     loop-holds
     shared-slice-read-if1
     add-result

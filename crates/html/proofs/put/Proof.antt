@@ -1,31 +1,42 @@
--- The bytes left from `i` on are still to write.
-use Prim.Native.Nat.{_-_}
-use mathlib.Core.List.{[], _∷_}
-use lib.ListN.{length, drop, drop-of-length-le}
+-- The bytes before `i` are copied.
+use Prim.Native.Nat.{_+_, _-_, _<_}
+use native.Mathlib.Omega.{arith}
+use mathlib.Core.Path.{refl}
+use lib.ListN.{length}
 use borrow.Author.Needs.{needs}
-use Rattle.scan.specs.Scan.{at-cons}
-use Rattle.html.proofs.Writing.{Leads, leads, onward, done, room}
+use Rattle.html.proofs.Copying.{fit-inside, Copies, copies, copies-on, copied}
 use Rattle.html.proofs.put.Statement.{statement}
 use Rattle.html.proofs.put.Tie as tie
 
-ruleset turns = (leads, onward, done, at-cons, drop-of-length-le, needs)
-
 abbrev Inv-loop : tie.InvT-loop
-Inv-loop page₀ n text k₀ i₀ page k i = Leads page₀ n text page k (drop i text)
+Inv-loop page₀ n text room i₀ page i = Copies page₀ n text page i
 
 abbrev μ-loop : tie.MeasureT-loop
-μ-loop page₀ n text k₀ i₀ page k i = length text - i
+μ-loop page₀ n text room i₀ page i = room - i
+
+-- the byte that a turn copies is one that fits
+inside : (c : tie.After-shared-slice-known2 Inv-loop μ-loop)
+    → (c .before .before .loop .i < length (c .before .before .before .before .before .before .args .text .now))
+    × (c .before .before .before .before .before .before .args .n + c .before .before .loop .i < length (c .before .before .loop .page))
+inside c =
+    let l = c .before .before in
+    let f = fit-inside _ _ _ (l .before .fitting .ensures) (l .loop .i) (c .before .loop-test .taken) in
+    (f .0, rw (l .loop .inv .same) (f .1))
+
+fitting-requires : tie.Need-fitting-requires Inv-loop μ-loop
+fitting-requires c κs = search needs
 
 loop-holds : tie.Need-loop-holds Inv-loop μ-loop
-loop-holds c = leads
+loop-holds c = copies
 
-shared-slice-read-put-byte : tie.Need-shared-slice-read-put-byte Inv-loop μ-loop
-shared-slice-read-put-byte c = search needs
+shared-slice-read-page : tie.Need-shared-slice-read-page Inv-loop μ-loop
+shared-slice-read-page c = inside c .0
 
-put-byte-requires : tie.Need-put-byte-requires Inv-loop μ-loop
-put-byte-requires c κs =
-    let l = c .before .before .before in
-    room (_ ∷ []) _ (l .loop .inv) (at-cons _ (l .loop .i) (search needs)) (l .before .before .before .pre)
+add-page : tie.Need-add-page Inv-loop μ-loop
+add-page c = omega (arith, inside c .0, c .before .before .before .before .before .before .pre)
+
+slice-write-page : tie.Need-slice-write-page Inv-loop μ-loop
+slice-write-page c = inside c .1
 
 add-i : tie.Need-add-i Inv-loop μ-loop
 add-i c = search needs
@@ -34,13 +45,16 @@ loop-less : tie.Need-loop-less Inv-loop μ-loop
 loop-less c = search needs
 
 loop-again : tie.Need-loop-again Inv-loop μ-loop
-loop-again c = search turns
+loop-again c = copies-on (c .before .before .loop .inv) (inside c .0) refl
+
+add-result : tie.Need-add-result Inv-loop μ-loop
+add-result c = search needs
 
 same-length : tie.Need-same-length Inv-loop μ-loop
-same-length c = search needs
+same-length c = c .before .loop .inv .same
 
 returns : tie.Need-returns Inv-loop μ-loop
-returns c = search turns
+returns c = copied (c .before .loop .inv) (c .before .before .fitting .ensures) (c .loop-test .left)
 
 pub put-spec : {M : Type 1} → statement M
 put-spec =
@@ -48,11 +62,14 @@ put-spec =
     (tie.spec
     Inv-loop
     μ-loop
+    fitting-requires
     loop-holds
-    shared-slice-read-put-byte
-    put-byte-requires
+    shared-slice-read-page
+    add-page
+    slice-write-page
     add-i
     loop-less
     loop-again
+    add-result
     same-length
     returns)

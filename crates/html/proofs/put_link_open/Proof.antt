@@ -20,25 +20,19 @@ put-href-requires c κs =
     let a = c .before .before .before .before .before .before .before .before .before .args in
     omega (arith, open-length (a .destination .now) (a .title .now))
 
-slice-aggregate-put-2 : tie.Need-slice-aggregate-put-2
-slice-aggregate-put-2 c = search needs
-
-put-requires-2 : tie.Need-put-requires-2
-put-requires-2 c κs =
-    let a = c .before .before .before .before .before .before .before .before .before .before .before .before .before .before .args in
+put-byte-requires : tie.Need-put-byte-requires
+put-byte-requires c κs =
+    let a = c .before .before .before .before .before .before .before .before .before .before .before .before .before .args in
     omega (arith, open-length (a .destination .now) (a .title .now))
 
 put-title-attribute-requires : tie.Need-put-title-attribute-requires
 put-title-attribute-requires c κs =
-    let a = c .before .before .before .before .before .before .before .before .before .before .before .before .before .before .before .before .before .before .args in
+    let a = c .before .before .before .before .before .before .before .before .before .before .before .before .before .before .before .before .before .args in
     omega (arith, open-length (a .destination .now) (a .title .now))
 
-slice-aggregate-put-3 : tie.Need-slice-aggregate-put-3
-slice-aggregate-put-3 c = search needs
-
-put-requires-3 : tie.Need-put-requires-3
-put-requires-3 c κs =
-    let a = c .before .before .before .before .before .before .before .before .before .before .before .before .before .before .before .before .before .before .before .before .before .before .before .args in
+put-byte-requires-2 : tie.Need-put-byte-requires-2
+put-byte-requires-2 c κs =
+    let a = c .before .before .before .before .before .before .before .before .before .before .before .before .before .before .before .before .before .before .before .before .before .args in
     omega (arith, open-length (a .destination .now) (a .title .now))
 
 same-length : tie.Need-same-length
@@ -47,12 +41,12 @@ same-length c = search needs
 returns : tie.Need-returns
 unfolding linkOpen
 returns c =
-    let t = c .before .before .before .before .before .before .before in
+    let t = c .before .before .before .before .before .before in
     let q = t .before .before .before .before in
-    let h = q .before .before .before .before .before in
+    let h = q .before .before .before .before in
     let p = h .before .before .before .before in
-    both (both (both (both (p .put .ensures) (h .put-href .ensures)) (q .put2 .ensures)) (t .put-title-attribute .ensures))
-    (c .before .before .put3 .ensures)
+    both (both (both (both (p .put .ensures) (h .put-href .ensures)) (q .put-byte .ensures)) (t .put-title-attribute .ensures))
+    (c .before .before .put-byte2 .ensures)
 
 pub put-link-open-spec : {M : Type 1} → statement M
 put-link-open-spec =
@@ -61,10 +55,8 @@ put-link-open-spec =
     slice-aggregate-put
     put-requires
     put-href-requires
-    slice-aggregate-put-2
-    put-requires-2
+    put-byte-requires
     put-title-attribute-requires
-    slice-aggregate-put-3
-    put-requires-3
+    put-byte-requires-2
     same-length
     returns)

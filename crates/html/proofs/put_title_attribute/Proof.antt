@@ -20,12 +20,9 @@ put-text-requires c κs =
     let d = c .before .before .before .before .before .before in
     omega (arith, some-title-length (d .before .before .before .args .title .now) (d .if1 .left))
 
-slice-aggregate-put-2 : tie.Need-slice-aggregate-put-2
-slice-aggregate-put-2 c = search needs
-
-put-requires-2 : tie.Need-put-requires-2
-put-requires-2 c κs =
-    let d = c .before .before .before .before .before .before .before .before .before .before .before in
+put-byte-requires : tie.Need-put-byte-requires
+put-byte-requires c κs =
+    let d = c .before .before .before .before .before .before .before .before .before .before in
     omega (arith, some-title-length (d .before .before .before .args .title .now) (d .if1 .left))
 
 same-length : tie.Need-same-length
@@ -33,11 +30,11 @@ same-length c = search needs
 
 returns-2 : tie.Need-returns-2
 returns-2 c =
-    let t = c .before .before .before .before .before .before .before in
+    let t = c .before .before .before .before .before .before in
     let p = t .before .before .before .before in
     let d = p .before .before .before in
     rw (some-title (d .before .before .before .args .title .now) (d .if1 .left))
-    (both (both (p .put .ensures) (t .put-text .ensures)) (c .before .before .put2 .ensures))
+    (both (both (p .put .ensures) (t .put-text .ensures)) (c .before .before .put-byte .ensures))
 
 pub put-title-attribute-spec : {M : Type 1} → statement M
 put-title-attribute-spec =
@@ -47,7 +44,6 @@ put-title-attribute-spec =
     slice-aggregate-put
     put-requires
     put-text-requires
-    slice-aggregate-put-2
-    put-requires-2
+    put-byte-requires
     same-length
     returns-2)

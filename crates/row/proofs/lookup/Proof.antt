@@ -7,22 +7,26 @@ use mathlib.Core.Path.{_≡_, refl, sym}
 use lib.ListN.{length, length-take, length-drop}
 use Rattle.matching.specs.Reading.{equals, matches}
 use Rattle.matching.specs.Turn as turn
+use Rattle.matching.specs.Quick as quick
 use Rattle.row.specs.Reading.{rowOf}
 use Rattle.row.proofs.Turn.{rowFrom, begins, part-within, hit, miss, none}
 use Rattle.row.proofs.lookup.Statement.{statement}
 use Rattle.row.proofs.lookup.Tie as tie
 
 abbrev Inv-loop : tie.InvT-loop
-Inv-loop note table count label k₀ start end own i₀ j₀ k i j = (k ≡ k₀) × (length own ≤ length note) × (equals (turn.formFrom own i) (turn.formFrom label j) ≡ matches own label)
+Inv-loop note table count label first k₀ start end own i₀ j₀ k i j = (k ≡ k₀) × (length own ≤ length note) × (equals (turn.formFrom own i) (turn.formFrom label j) ≡ matches own label)
 
 abbrev μ-loop : tie.MeasureT-loop
-μ-loop note table count label k₀ start end own i₀ j₀ k i j = length own - i
+μ-loop note table count label first k₀ start end own i₀ j₀ k i j = length own - i
 
 abbrev Inv-rows : tie.InvT-rows
-Inv-rows note table count label k₀ k = (k ≤ count) × (rowFrom note table label k (count - k) ≡ rowOf note table label count)
+Inv-rows note table count label first k₀ k = (k ≤ count) × (rowFrom note table label k (count - k) ≡ rowOf note table label count)
 
 abbrev μ-rows : tie.MeasureT-rows
-μ-rows note table count label k₀ k = count - k
+μ-rows note table count label first k₀ k = count - k
+
+peek-requires : tie.Need-peek-requires Inv-loop μ-loop Inv-rows μ-rows
+peek-requires c κs = search needs
 
 rows-holds : tie.Need-rows-holds Inv-loop μ-loop Inv-rows μ-rows
 rows-holds c = (search needs, begins _ _ _ _)
@@ -34,16 +38,51 @@ range-at-requires : tie.Need-range-at-requires Inv-loop μ-loop Inv-rows μ-rows
 range-at-requires c κs = search needs
 
 sub-own : tie.Need-sub-own Inv-loop μ-loop Inv-rows μ-rows
-sub-own c = let w = part-within (c .before .before .before .before .before .before .pre) (c .before .before .rows .k) (c .before .if1 .left) (c .range-at .ensures) in omega arith
+sub-own c = let w = part-within (c .before .before .before .before .before .before .before .pre) (c .before .before .rows .k) (c .before .if1 .left) (c .range-at .ensures) in omega arith
 
 part-own-start : tie.Need-part-own-start Inv-loop μ-loop Inv-rows μ-rows
-part-own-start c = let w = part-within (c .before .before .before .before .before .before .pre) (c .before .before .rows .k) (c .before .if1 .left) (c .range-at .ensures) in omega arith
+part-own-start c = let w = part-within (c .before .before .before .before .before .before .before .pre) (c .before .before .rows .k) (c .before .if1 .left) (c .range-at .ensures) in omega arith
 
 part-own-end : tie.Need-part-own-end Inv-loop μ-loop Inv-rows μ-rows
-part-own-end c = let w = part-within (c .before .before .before .before .before .before .pre) (c .before .before .rows .k) (c .before .if1 .left) (c .range-at .ensures) in omega arith
+part-own-end c = let w = part-within (c .before .before .before .before .before .before .before .pre) (c .before .before .rows .k) (c .before .if1 .left) (c .range-at .ensures) in omega arith
+
+peek-requires-2 : tie.Need-peek-requires-2 Inv-loop μ-loop Inv-rows μ-rows
+peek-requires-2 c κs = search needs
+
+are-unlike-requires : tie.Need-are-unlike-requires Inv-loop μ-loop Inv-rows μ-rows
+are-unlike-requires c κs = search needs
+
+add-k : tie.Need-add-k Inv-loop μ-loop Inv-rows μ-rows
+add-k c = search needs
+
+rows-less : tie.Need-rows-less Inv-loop μ-loop Inv-rows μ-rows
+rows-less c = search needs
+
+rows-again : tie.Need-rows-again Inv-loop μ-loop Inv-rows μ-rows
+rows-again c =
+    let o = c .before .before .before .before in (
+      search needs,
+      miss _ _ _ _ _ (o .before .before .rows .inv .1) (o .before .if1 .left) (o .range-at .ensures) (quick.unlike-first _ _ (c .before .before .peek2 .ensures) (o .before .before .before .peek .ensures) (c .before .are-unlike .ensures) (c .if2 .taken)),
+    )
 
 loop-holds : tie.Need-loop-holds Inv-loop μ-loop Inv-rows μ-rows
 loop-holds c = (refl, simp (length-take, length-drop) (omega arith), turn.begins _ _)
+
+same-at-requires : tie.Need-same-at-requires Inv-loop μ-loop Inv-rows μ-rows
+same-at-requires c κs = search needs
+
+add-i : tie.Need-add-i Inv-loop μ-loop Inv-rows μ-rows
+add-i c = omega (arith, quick.same-left _ _ _ _ (c .before .same-at .ensures) (c .if3 .taken))
+
+add-j : tie.Need-add-j Inv-loop μ-loop Inv-rows μ-rows
+add-j c = omega (arith, quick.same-right _ _ _ _ (c .before .same-at .ensures) (c .if3 .taken))
+
+loop-less : tie.Need-loop-less Inv-loop μ-loop Inv-rows μ-rows
+loop-less c = omega (arith, quick.same-left _ _ _ _ (c .before .same-at .ensures) (c .if3 .taken))
+
+loop-again : tie.Need-loop-again Inv-loop μ-loop Inv-rows μ-rows
+loop-again c =
+    let l = c .before .before .loop in (search needs, search needs, quick.same-on _ _ (l .i) (l .j) (c .before .same-at .ensures) (c .if3 .taken) (l .inv .2))
 
 past-blanks-requires : tie.Need-past-blanks-requires Inv-loop μ-loop Inv-rows μ-rows
 past-blanks-requires c κs = search needs
@@ -54,46 +93,46 @@ past-blanks-requires-2 c κs = search needs
 agree-at-requires : tie.Need-agree-at-requires Inv-loop μ-loop Inv-rows μ-rows
 agree-at-requires c κs = search needs
 
-add-k : tie.Need-add-k Inv-loop μ-loop Inv-rows μ-rows
-add-k c = search needs
+add-k-2 : tie.Need-add-k-2 Inv-loop μ-loop Inv-rows μ-rows
+add-k-2 c = search needs
 
-rows-less : tie.Need-rows-less Inv-loop μ-loop Inv-rows μ-rows
-rows-less c = search needs
+rows-less-2 : tie.Need-rows-less-2 Inv-loop μ-loop Inv-rows μ-rows
+rows-less-2 c = search needs
 
-rows-again : tie.Need-rows-again Inv-loop μ-loop Inv-rows μ-rows
-rows-again c =
-    let l = c .before .before .before .before .loop in
-    let o = c .before .before .before .before .before .before .before .before .rows in (
+rows-again-2 : tie.Need-rows-again-2 Inv-loop μ-loop Inv-rows μ-rows
+rows-again-2 c =
+    let l = c .before .before .before .before .before .before .loop in
+    let o = c .before .before .before .before .before .before .before .before .before .before .before in (
       search needs,
       rw (l .inv .0)
-          (miss _ _ _ _ (o .k) (o .inv .1) (c .before .before .before .before .before .before .before .if1 .left) (c .before .before .before .before .before .before .range-at .ensures)
-          (sym (turn.differ _ _ (l .i) (l .j) _ _ (c .before .before .before .past-blanks .ensures) (c .before .before .past-blanks2 .ensures) (c .before .agree-at .ensures) (l .inv .2) (not-true _ (c .if2 .taken))))),
+          (miss _ _ _ _ (o .before .before .rows .k) (o .before .before .rows .inv .1) (o .before .if1 .left) (o .range-at .ensures)
+          (sym (turn.differ _ _ (l .i) (l .j) _ _ (c .before .before .before .past-blanks .ensures) (c .before .before .past-blanks2 .ensures) (c .before .agree-at .ensures) (l .inv .2) (not-true _ (c .if4 .taken))))),
     )
 
-add-i : tie.Need-add-i Inv-loop μ-loop Inv-rows μ-rows
-add-i c = search needs
+add-i-2 : tie.Need-add-i-2 Inv-loop μ-loop Inv-rows μ-rows
+add-i-2 c = search needs
 
-add-j : tie.Need-add-j Inv-loop μ-loop Inv-rows μ-rows
-add-j c = omega (arith, turn.both-inside _ _ _ _ _ _ (c .before .before .agree-at .ensures) (not-false _ (c .before .if2 .left)) (c .if3 .left))
+add-j-2 : tie.Need-add-j-2 Inv-loop μ-loop Inv-rows μ-rows
+add-j-2 c = omega (arith, turn.both-inside _ _ _ _ _ _ (c .before .before .agree-at .ensures) (not-false _ (c .before .if4 .left)) (c .if5 .left))
 
-loop-less : tie.Need-loop-less Inv-loop μ-loop Inv-rows μ-rows
-loop-less c = omega (arith, turn.past-from _ _ _ (c .before .before .before .before .past-blanks .ensures))
+loop-less-2 : tie.Need-loop-less-2 Inv-loop μ-loop Inv-rows μ-rows
+loop-less-2 c = omega (arith, turn.past-from _ _ _ (c .before .before .before .before .past-blanks .ensures))
 
-loop-again : tie.Need-loop-again Inv-loop μ-loop Inv-rows μ-rows
-loop-again c =
-    let l = c .before .before .before .before .before .loop in
-    (search needs, search needs, turn.agreed _ _ (l .i) (l .j) _ _ (c .before .before .before .before .past-blanks .ensures) (c .before .before .before .past-blanks2 .ensures) (c .before .before .agree-at .ensures) (l .inv .2) (not-false _ (c .before .if2 .left)) (c .if3 .left))
+loop-again-2 : tie.Need-loop-again-2 Inv-loop μ-loop Inv-rows μ-rows
+loop-again-2 c =
+    let l = c .before .before .before .before .before .before .before .loop in
+    (search needs, search needs, turn.agreed _ _ (l .i) (l .j) _ _ (c .before .before .before .before .past-blanks .ensures) (c .before .before .before .past-blanks2 .ensures) (c .before .before .agree-at .ensures) (l .inv .2) (not-false _ (c .before .if4 .left)) (c .if5 .left))
 
 returns : tie.Need-returns Inv-loop μ-loop Inv-rows μ-rows
 returns c = none _ _ _ _ _ (c .before .rows .inv .1) (c .if1 .taken)
 
 returns-2 : tie.Need-returns-2 Inv-loop μ-loop Inv-rows μ-rows
 returns-2 c =
-    let l = c .before .before .before .before .before .loop in
-    let o = c .before .before .before .before .before .before .before .before .before .rows in
+    let l = c .before .before .before .before .before .before .before .loop in
+    let o = c .before .before .before .before .before .before .before .before .before .before .before .before in
     rw (l .inv .0)
-    (hit _ _ _ _ (o .k) (o .inv .1) (c .before .before .before .before .before .before .before .before .if1 .left) (c .before .before .before .before .before .before .before .range-at .ensures)
-    (sym (turn.both-over _ _ (l .i) (l .j) _ _ (c .before .before .before .before .past-blanks .ensures) (c .before .before .before .past-blanks2 .ensures) (c .before .before .agree-at .ensures) (l .inv .2) (not-false _ (c .before .if2 .left)) (c .if3 .taken))))
+    (hit _ _ _ _ (o .before .before .rows .k) (o .before .before .rows .inv .1) (o .before .if1 .left) (o .range-at .ensures)
+    (sym (turn.both-over _ _ (l .i) (l .j) _ _ (c .before .before .before .before .past-blanks .ensures) (c .before .before .before .past-blanks2 .ensures) (c .before .before .agree-at .ensures) (l .inv .2) (not-false _ (c .before .if4 .left)) (c .if5 .taken))))
 
 pub lookup-spec : {M : Type 1} → statement M
 lookup-spec =
@@ -103,22 +142,33 @@ lookup-spec =
     μ-loop
     Inv-rows
     μ-rows
+    peek-requires
     rows-holds
     mul-range-at
     range-at-requires
     sub-own
     part-own-start
     part-own-end
-    loop-holds
-    past-blanks-requires
-    past-blanks-requires-2
-    agree-at-requires
+    peek-requires-2
+    are-unlike-requires
     add-k
     rows-less
     rows-again
+    loop-holds
+    same-at-requires
     add-i
     add-j
     loop-less
     loop-again
+    past-blanks-requires
+    past-blanks-requires-2
+    agree-at-requires
+    add-k-2
+    rows-less-2
+    rows-again-2
+    add-i-2
+    add-j-2
+    loop-less-2
+    loop-again-2
     returns
     returns-2)

@@ -1,49 +1,93 @@
--- Each turn writes an escape or a byte of the run.
+-- Each turn writes the bytes that stand for themselves, and then an escape or a byte of the run.
 use Prim.Native.Nat.{ℕ, _+_, _-_, _≤_, _<_}
 use native.Mathlib.Omega.{arith}
 use mathlib.Core.Path.{_≡_, sym}
-use mathlib.Core.Logic.{⊎-elim}
 use lib.ListN.{length, take, drop}
 use lib.Seq.{length-take-le}
 use borrow.Author.Needs.{needs}
-use Rattle.html.specs.Reading.{backslash}
-use Rattle.writer.proofs.Texts.{Runs, runs, run-ends, past-backslash, no-backslash, unit-inside, unit-room, unit-runs}
+use Rattle.writer.proofs.Steps.{moved}
+use Rattle.writer.proofs.Texts.{Runs, runs, run-ends, run-to, run-room, run-runs, unit-inside, unit-room, unit-runs}
 use Rattle.writer.proofs.write_text.Statement.{statement}
 use Rattle.writer.proofs.write_text.Tie as tie
 
 abbrev Inv-loop : tie.InvT-loop
-Inv-loop note end stop p page₀ text at₀ size₀ page at size = Runs note end p page₀ page at size
+Inv-loop note end stop page₀ text plain p page w = Runs note end p page₀ page w
 
 abbrev μ-loop : tie.MeasureT-loop
-μ-loop note end stop p page₀ text at₀ size₀ page at size = stop - at
+μ-loop note end stop page₀ text plain p page w = stop - w .at
 
 slice-aggregate-text : tie.Need-slice-aggregate-text Inv-loop μ-loop
 slice-aggregate-text c = let t = c .before .before .before in sym (length-take-le (t .args .end) (t .args .note .now) (t .pre .0 .within))
 
+slice-aggregate-plain : tie.Need-slice-aggregate-plain Inv-loop μ-loop
+slice-aggregate-plain c =
+    let t = c .before .before .before .before in
+    sym (length-take-le (t .args .stop) (t .args .note .now) (omega (arith, t .pre .0 .inside, t .pre .0 .within)))
+
 loop-holds : tie.Need-loop-holds Inv-loop μ-loop
-loop-holds c = runs (c .before .before .before .pre .0)
+loop-holds c = runs (c .before .before .before .before .pre .0)
 
-escape-at-requires : tie.Need-escape-at-requires Inv-loop μ-loop
-escape-at-requires c κs = search needs
+as-is-end-requires : tie.Need-as-is-end-requires Inv-loop μ-loop
+as-is-end-requires c κs = search needs
 
-add-at : tie.Need-add-at Inv-loop μ-loop
-add-at c = search needs
+-- where the bytes that stand for themselves end
+ends : (c : tie.After-put-arg Inv-loop μ-loop)
+    → (c .before .before .before .before .loop .w .at ≤ c .before .as-is-end .result)
+    × (c .before .as-is-end .result ≤ length (take (c .before .before .before .before .before .before .before .before .before .args .stop) (c .before .before .before .before .before .before .before .before .before .args .note .now)))
+ends c =
+    let l = c .before .before .before .before in
+    run-to (l .before .before .before .before .before .pre .0) (l .loop .inv) (c .before .before .if1 .taken) (c .before .as-is-end .ensures)
 
--- where the arms of the test meet: the place of the byte that the turn writes
-abbrev At : tie.Joined1 Inv-loop μ-loop → ℕ
-At c = c .before .before .before .loop .at
+sub-put : tie.Need-sub-put Inv-loop μ-loop
+sub-put c = ends c .0
 
-abbrev Start : tie.Joined1 Inv-loop μ-loop → tie.Start Inv-loop μ-loop
-Start c = c .before .before .before .before .before .before .before
+part-put-start : tie.Need-part-put-start Inv-loop μ-loop
+part-put-start c = ends c .0
 
-byte-at : (c : tie.Joined1 Inv-loop μ-loop) → c .if1 .at ≡ At c + backslash (drop (At c) (take (Start c .args .end) (Start c .args .note .now)))
-byte-at c =
-    let l = drop (At c) (take (Start c .args .end) (Start c .args .note .now)) in
-    let f = c .before .escape-at .ensures in
-    ⊎-elim (λ w. past-backslash l (At c) f (w .0 .taken) (w .1)) (λ w. no-backslash l (At c) f (w .0 .left) (w .1)) (c .if1 .came)
+part-put-end : tie.Need-part-put-end Inv-loop μ-loop
+part-put-end c = ends c .1
 
-byte-inside : (c : tie.Joined1 Inv-loop μ-loop) → (At c ≤ c .if1 .at) × (c .if1 .at < length (take (Start c .args .end) (Start c .args .note .now)))
-byte-inside c = unit-inside (Start c .pre .0) (c .before .before .before .loop .inv) (c .before .before .loop-test .taken) (byte-at c)
+put-requires : tie.Need-put-requires Inv-loop μ-loop
+put-requires c κs =
+    let l = c .before .before .before .before .before in
+    let t = l .before .before .before .before .before in
+    run-room (t .pre .0) (l .loop .inv) (c .before .before .before .if1 .taken) (c .before .before .as-is-end .ensures) (t .pre .1)
+
+-- they are written
+abbrev Start : tie.After-slice-known2 Inv-loop μ-loop → tie.Start Inv-loop μ-loop
+Start c = c .before .before .before .before .before .before .before .before .before .before .before .before .before
+
+abbrev To : tie.After-slice-known2 Inv-loop μ-loop → ℕ
+To c = c .before .before .before .before .before .as-is-end .result
+
+ran : (c : tie.After-slice-known2 Inv-loop μ-loop)
+    → Runs (Start c .args .note .now) (Start c .args .end) (Start c .args .p) (Start c .args .page .now) (c .before .before .put .last .0) (moved (c .before .before .before .before .before .before .before .before .loop .w) (To c) (c .before .before .put .result))
+ran c = run-runs (Start c .pre .0) (c .before .before .before .before .before .before .before .before .loop .inv) (c .before .before .before .before .before .before .if1 .taken) (c .before .before .before .before .before .as-is-end .ensures) (c .before .before .put .ensures)
+
+to-stop : (c : tie.After-slice-known2 Inv-loop μ-loop) → To c ≤ Start c .args .stop
+to-stop c =
+    let q = Start c .pre .0 in
+    omega (arith, ends (c .before .before .before .before) .1, length-take-le (Start c .args .stop) (Start c .args .note .now) (omega (arith, q .inside, q .within)))
+
+same-length : tie.Need-same-length Inv-loop μ-loop
+same-length c = ran (c .before) .written .same
+
+returns : tie.Need-returns Inv-loop μ-loop
+returns c = run-ends (Start (c .before) .pre .0) (ran (c .before)) (omega (arith, c .if2 .taken))
+
+unfinished : (c : tie.Else2 Inv-loop μ-loop) → To (c .before) < Start (c .before) .args .stop
+unfinished c = omega (arith, to-stop (c .before), c .if2 .left)
+
+past-backslash-requires : tie.Need-past-backslash-requires Inv-loop μ-loop
+past-backslash-requires c κs =
+    let t = Start (c .before) in
+    omega (arith, unfinished c, t .pre .0 .inside, length-take-le (t .args .end) (t .args .note .now) (t .pre .0 .within))
+
+-- the byte of the unit after them
+byte-inside : (c : tie.After-past-backslash Inv-loop μ-loop)
+    → (To (c .before .before) ≤ c .past-backslash .result)
+    × (c .past-backslash .result < length (take (Start (c .before .before) .args .end) (Start (c .before .before) .args .note .now)))
+byte-inside c = unit-inside (Start (c .before .before) .pre .0) (ran (c .before .before)) (unfinished (c .before)) (c .past-backslash .ensures)
 
 shared-slice-read-put-escaped : tie.Need-shared-slice-read-put-escaped Inv-loop μ-loop
 shared-slice-read-put-escaped c = byte-inside (c .before .before) .1
@@ -51,31 +95,30 @@ shared-slice-read-put-escaped c = byte-inside (c .before .before) .1
 put-escaped-requires : tie.Need-put-escaped-requires Inv-loop μ-loop
 put-escaped-requires c κs =
     let j = c .before .before in
-    let t = Start j in
-    unit-room (t .pre .0) (j .before .before .before .loop .inv) (j .before .before .loop-test .taken) (byte-at j) (t .pre .1)
+    let t = Start (j .before .before) in
+    unit-room (t .pre .0) (ran (j .before .before)) (unfinished (j .before)) (j .past-backslash .ensures) (t .pre .1)
 
-add-at-2 : tie.Need-add-at-2 Inv-loop μ-loop
-add-at-2 c =
-    let j = c .before .before .before .before .before .before in
-    let t = Start j in
+add-w : tie.Need-add-w Inv-loop μ-loop
+add-w c =
+    let j = c .before .before .before .before .before in
+    let t = Start (j .before .before) in
     omega (arith, byte-inside j .1, length-take-le (t .args .end) (t .args .note .now) (t .pre .0 .within))
 
 loop-less : tie.Need-loop-less Inv-loop μ-loop
 loop-less c =
-    let j = c .before .before .before .before .before .before in
-    omega (arith, byte-inside j .0, j .before .before .loop-test .taken)
+    let j = c .before .before .before .before .before in
+    omega (arith, byte-inside j .0, ends (j .before .before .before .before .before .before) .0, unfinished (j .before))
 
 loop-again : tie.Need-loop-again Inv-loop μ-loop
 loop-again c =
-    let j = c .before .before .before .before .before .before in
-    let t = Start j in
-    unit-runs (t .pre .0) (j .before .before .before .loop .inv) (j .before .before .loop-test .taken) (byte-at j) (c .before .before .before .put-escaped .ensures)
+    let j = c .before .before .before .before .before in
+    unit-runs (Start (j .before .before) .pre .0) (ran (j .before .before)) (unfinished (j .before)) (j .past-backslash .ensures) (c .before .before .put-escaped .ensures)
 
-same-length : tie.Need-same-length Inv-loop μ-loop
-same-length c = c .before .loop .inv .written .same
+same-length-2 : tie.Need-same-length-2 Inv-loop μ-loop
+same-length-2 c = c .before .before .loop .inv .written .same
 
-returns : tie.Need-returns Inv-loop μ-loop
-returns c = run-ends (c .before .before .before .before .before .pre .0) (c .before .loop .inv) (c .loop-test .left)
+returns-2 : tie.Need-returns-2 Inv-loop μ-loop
+returns-2 c = run-ends (c .before .before .before .before .before .before .before .pre .0) (c .before .before .loop .inv) (c .if1 .left)
 
 pub write-text-spec : {M : Type 1} → statement M
 write-text-spec =
@@ -84,13 +127,20 @@ write-text-spec =
     Inv-loop
     μ-loop
     slice-aggregate-text
+    slice-aggregate-plain
     loop-holds
-    escape-at-requires
-    add-at
+    as-is-end-requires
+    sub-put
+    part-put-start
+    part-put-end
+    put-requires
+    same-length
+    returns
+    past-backslash-requires
     shared-slice-read-put-escaped
     put-escaped-requires
-    add-at-2
+    add-w
     loop-less
     loop-again
-    same-length
-    returns)
+    same-length-2
+    returns-2)
