@@ -28,8 +28,8 @@
  * Nothing else is asked of the caller: every note, every label and every length has an answer, and every call ends. What the
  * tables and the page buffer hold before the call does not matter.
  *
- * The library has no state, allocates no memory and calls nothing but memset. Any number of threads may call it at once, each
- * with buffers of its own. A call takes less than 4,096 bytes of stack, whatever the note.
+ * The library has no state, allocates no memory and calls nothing but memset and memcpy. Any number of threads may call it at
+ * once, each with buffers of its own. A call takes less than 4,096 bytes of stack, whatever the note.
  *
  *
  * Answers

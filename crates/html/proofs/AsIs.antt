@@ -3,12 +3,16 @@ use Prim.Native.Nat.{ℕ, zero, suc, _+_, _-_, _≤_, _<_}
 use native.Mathlib.Omega.{arith}
 use mathlib.Core.Path.{_≡_, refl, sym, ap, _∙_}
 use mathlib.Core.List.{List, [], _∷_, _++_, map, flatMap}
-use mathlib.Core.Bool.{Bool, true, false, true≢false}
-use borrow.Author.Tests.{ne-eqb}
+use mathlib.Core.Bool.{Bool, true, false, true≢false, not, _||_}
+use borrow.Author.Tests.{ne-eqb, not-true}
 use lib.ListN.{length, getD, take, drop, length-drop}
+use lib.Dec.{leb, eqb}
 use lib.Seq.{drop-drop, getD-drop}
-use Rattle.scan.specs.Test.{by}
-use Rattle.scan.specs.Scan.{run, run-yes, run-no, past}
+use Rattle.scan.specs.Byte.{within}
+use Rattle.scan.specs.Test.{by, and-right, neither}
+use Rattle.scan.specs.Scan.{run, run-yes, run-no, run-fits, past}
+use Rattle.scan.specs.Stride.{clear, pastStrides}
+use Rattle.scan.proofs.Strides.{unlike, strides-through}
 use Rattle.html.specs.Page.{escaped, spaced}
 use Rattle.html.specs.Reading.{asIs, textOf}
 use Rattle.html.proofs.Bytes.{plain}
@@ -16,11 +20,6 @@ use Rattle.html.proofs.Undone.{undone-byte, no-escape}
 
 -- ---- the run at the front of l, and what a list gives on the page
 module _ (test : ℕ → Bool) where
-  run-most : (l : List ℕ) → run test l ≤ length l
-  unfolding run
-  run-most [] = omega arith
-  run-most (b ∷ l) = by (test b) (λ e. omega (arith, run-yes test b l e, run-most l)) (λ e. omega (arith, run-no test b l e))
-
   run-each : (l : List ℕ) (i : ℕ) → i < run test l → test (getD l i 0) ≡ true
   unfolding run
   run-each [] i h = absurd (omega arith)
@@ -42,7 +41,7 @@ module _ (test : ℕ → Bool) where
 
     pub run-within : i ≤ length s → (i ≤ r) × (r ≤ length s)
     unfolding past
-    run-within h = (omega arith, omega (arith, run-most (drop i s), length-drop i s))
+    run-within h = (omega arith, omega (arith, run-fits test (drop i s), length-drop i s))
 
     pub each-passes : (j : ℕ) → i ≤ j → j < r → test (getD s j 0) ≡ true
     unfolding past
@@ -72,6 +71,27 @@ module _ (mark : ℕ) where
 
   pub escaped-part : (s : List ℕ) (i : ℕ) {r : ℕ} → r ≡ past (asIs mark) s i → flatMap escaped (take (r - i) (drop i s)) ≡ take (r - i) (drop i s)
   escaped-part s i e = rw (size (asIs mark) s i e) (escaped-run (drop i s))
+
+  -- ---- strides
+  abbrev strided : ℕ → Bool
+  strided b = clear 255 34 38 60 62 mark b
+
+  stride-as-is : (b : ℕ) → strided b ≡ true → asIs mark b ≡ true
+  stride-as-is b e =
+      simp (
+        unlike strided b 38 e refl,
+        unlike strided b 60 e refl,
+        unlike strided b 62 e refl,
+        unlike strided b 34 e refl,
+        neither (within 34 38 b || within 60 62 b) (eqb b mark) (not-true (within 34 38 b || within 60 62 b || eqb b mark) (and-right (leb b 255) (not (within 34 38 b || within 60 62 b || eqb b mark)) e)) .1,
+      )
+
+  stride-byte : (b : ℕ) (l : List ℕ) (k : ℕ) → strided b ≡ true → k + run (asIs mark) (b ∷ l) ≡ k + 1 + run (asIs mark) l
+  stride-byte b l k e = omega (arith, run-yes (asIs mark) b l (stride-as-is b e))
+
+  pub as-is-strides : (s : List ℕ) (at : ℕ) {i : ℕ} → i ≡ pastStrides strided s at → past (asIs mark) s i ≡ past (asIs mark) s at
+  unfolding past
+  as-is-strides s at e = rw e (strides-through strided (λ (l : List ℕ) (k : ℕ). k + run (asIs mark) l) stride-byte s at)
 
 -- in text
 pub no-backslash : (b : ℕ) → asIs 92 b ≡ true → b ≡ 92 → ⊥

@@ -88,11 +88,11 @@ fn stands_as_is(b: u8, mark: u8) -> bool
     !((b == b'&') | (b == b'<') | (b == b'>') | (b == b'"') | (b == mark))
 }
 
-// The first place from `at` on where `mark` or a byte that is escaped stands; the end is one.
+// The first place from `at` on where `mark` or a byte that is escaped stands; the end is one. Long runs are passed by strides.
 pub fn as_is_end(s: &[u8], at: usize, mark: u8) -> usize
     ensures { λ r. ⌜ r ≡ past (asIs mark) (now (s .entry)) at ⌝ }
 {
-    let mut i = at;
+    let mut i = scan::past_strides(s, at, 255, 34, 38, 60, 62, mark);
     while i < s.len() {
         if !stands_as_is(s[i], mark) {
             return i;

@@ -13,7 +13,7 @@ use Rattle.scan.proofs.Strides.{unlike, strides-through}
 use Rattle.inline.specs.Pieces.{quiet}
 
 abbrev strided : ℕ → Bool
-strided b = clear 255 91 93 96 b
+strided b = clear 255 91 93 96 96 96 b
 
 stride-quiet : (b : ℕ) → strided b ≡ true → quiet b ≡ true
 stride-quiet b e =

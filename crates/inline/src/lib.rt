@@ -53,7 +53,7 @@ pub fn plain_end(s: &[u8], at: usize) -> usize
     if !is_quiet(scan::peek(s, at)) {
         return at;
     }
-    let mut i = scan::past_strides(s, at, 255, 91, 93, 96);
+    let mut i = scan::past_strides(s, at, 255, 91, 93, 96, 96, 96);
     while i < s.len() {
         if !is_quiet(s[i]) {
             return i;

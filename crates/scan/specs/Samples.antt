@@ -47,9 +47,9 @@ pub samples-hold : hold samples ≡ true
 unfolding scan closingStep closing
 samples-hold = refl
 
--- strides of bytes other than a to c, z and those past y; the text has 40 bytes
+-- strides of bytes other than a to c, e to f, z and those past y; the text has 40 bytes
 abbrev pub strided : String → ℕ → ℕ
-strided s at = pastStrides (clear 121 97 99 122) (ascii s) at
+strided s at = pastStrides (clear 121 97 99 101 102 122) (ascii s) at
 
 pub strides-hold :
     (strided "................................_______." 0 ≡ 32)
@@ -57,7 +57,8 @@ pub strides-hold :
     × (strided "................................_______." 9 ≡ 25)
     × (strided "...............z........................" 0 ≡ 0)
     × (strided "................b......................." 0 ≡ 16)
+    × (strided "..................f....................." 0 ≡ 16)
     × (strided "...............................{........" 0 ≡ 16)
     × (strided "................" 16 ≡ 16)
 unfolding run pastStrides
-strides-hold = (refl, refl, refl, refl, refl, refl, refl)
+strides-hold = (refl, refl, refl, refl, refl, refl, refl, refl)

@@ -7,9 +7,9 @@ use lib.Dec.{leb, eqb}
 use Rattle.scan.specs.Byte.{within}
 use Rattle.scan.specs.Scan.{run}
 
--- at most top, outside lo to hi, and not `other`
-abbrev pub clear : ℕ → ℕ → ℕ → ℕ → ℕ → Bool
-clear top lo hi other b = leb b top && not (within lo hi b || eqb b other)
+-- at most top, outside lo to hi and outside from to to, and not `other`
+abbrev pub clear : ℕ → ℕ → ℕ → ℕ → ℕ → ℕ → ℕ → Bool
+clear top lo hi from to other b = leb b top && not (within lo hi b || within from to b || eqb b other)
 
 -- at least k bytes stand from i on that all pass
 abbrev pub runs : (ℕ → Bool) → ℕ → List ℕ → ℕ → Bool

@@ -66,27 +66,27 @@ pub fn closing_place(s: &[u8], at: usize, close: u8, bar: u8, other: u8) -> Foun
     Found::Nothing
 }
 
-// Whether `b` is at most `top`, outside `lo` to `hi`, and not `other`.
-fn is_clear(b: u8, top: u8, lo: u8, hi: u8, other: u8) -> bool
-    ensures { λ r. ⌜ r ≡ clear top lo hi other b ⌝ }
+// Whether `b` is at most `top`, outside `lo` to `hi` and outside `from` to `to`, and not `other`.
+fn is_clear(b: u8, top: u8, lo: u8, hi: u8, from: u8, to: u8, other: u8) -> bool
+    ensures { λ r. ⌜ r ≡ clear top lo hi from to other b ⌝ }
 {
-    (b <= top) & !((lo <= b) & (b <= hi) | (b == other))
+    (b <= top) & !((lo <= b) & (b <= hi) | (from <= b) & (b <= to) | (b == other))
 }
 
 // Whether the four bytes from `i` on are clear.
-fn four_clear(s: &[u8], i: usize, top: u8, lo: u8, hi: u8, other: u8) -> bool
+fn four_clear(s: &[u8], i: usize, top: u8, lo: u8, hi: u8, from: u8, to: u8, other: u8) -> bool
     requires { ⌜ i + 4 ≤ length (now s) ⌝ }
-    ensures { λ r. ⌜ r ≡ runs (clear top lo hi other) 4 (now (s .entry)) i ⌝ }
+    ensures { λ r. ⌜ r ≡ runs (clear top lo hi from to other) 4 (now (s .entry)) i ⌝ }
 {
-    is_clear(s[i], top, lo, hi, other)
-        & is_clear(s[i + 1], top, lo, hi, other)
-        & is_clear(s[i + 2], top, lo, hi, other)
-        & is_clear(s[i + 3], top, lo, hi, other)
+    is_clear(s[i], top, lo, hi, from, to, other)
+        & is_clear(s[i + 1], top, lo, hi, from, to, other)
+        & is_clear(s[i + 2], top, lo, hi, from, to, other)
+        & is_clear(s[i + 3], top, lo, hi, from, to, other)
 }
 
 // Whether sixteen bytes stand from `i` on and are clear. No byte decides alone, so that they are compared at once.
-fn sixteen_clear(s: &[u8], i: usize, top: u8, lo: u8, hi: u8, other: u8) -> bool
-    ensures { λ r. ⌜ r ≡ runs (clear top lo hi other) 16 (now (s .entry)) i ⌝ }
+fn sixteen_clear(s: &[u8], i: usize, top: u8, lo: u8, hi: u8, from: u8, to: u8, other: u8) -> bool
+    ensures { λ r. ⌜ r ≡ runs (clear top lo hi from to other) 16 (now (s .entry)) i ⌝ }
 {
     if s.len() < 16 {
         return false;
@@ -94,19 +94,28 @@ fn sixteen_clear(s: &[u8], i: usize, top: u8, lo: u8, hi: u8, other: u8) -> bool
     if s.len() - 16 < i {
         return false;
     }
-    four_clear(s, i, top, lo, hi, other)
-        & four_clear(s, i + 4, top, lo, hi, other)
-        & four_clear(s, i + 8, top, lo, hi, other)
-        & four_clear(s, i + 12, top, lo, hi, other)
+    four_clear(s, i, top, lo, hi, from, to, other)
+        & four_clear(s, i + 4, top, lo, hi, from, to, other)
+        & four_clear(s, i + 8, top, lo, hi, from, to, other)
+        & four_clear(s, i + 12, top, lo, hi, from, to, other)
 }
 
 // Past the whole strides of sixteen clear bytes from `at` on.
-pub fn past_strides(s: &[u8], at: usize, top: u8, lo: u8, hi: u8, other: u8) -> usize
-    ensures { λ r. ⌜ r ≡ pastStrides (clear top lo hi other) (now (s .entry)) at ⌝ }
+pub fn past_strides(
+    s: &[u8],
+    at: usize,
+    top: u8,
+    lo: u8,
+    hi: u8,
+    from: u8,
+    to: u8,
+    other: u8,
+) -> usize
+    ensures { λ r. ⌜ r ≡ pastStrides (clear top lo hi from to other) (now (s .entry)) at ⌝ }
 {
     let mut i = at;
     while i < s.len() {
-        if !sixteen_clear(s, i, top, lo, hi, other) {
+        if !sixteen_clear(s, i, top, lo, hi, from, to, other) {
             return i;
         }
         i += 16;

@@ -98,7 +98,7 @@ goodLength s = cond (barred (getD s 0 0)) 0 (characterLength s)
 
 -- a byte that is a good character by itself
 abbrev pub goodAscii : ℕ → Bool
-goodAscii b = clear 127 13 13 0 b
+goodAscii b = clear 127 13 13 0 0 0 b
 
 -- past whole strides of such bytes, at every sixteenth place
 unfoldable pub pastAscii : List ℕ → ℕ → ℕ

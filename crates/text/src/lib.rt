@@ -117,7 +117,7 @@ fn past_ascii(s: &[u8], at: usize) -> usize
     ensures { λ r. ⌜ r ≡ pastAscii (now (s .entry)) at ⌝ }
 {
     if at % 16 == 0 {
-        return scan::past_strides(s, at, 127, 13, 13, 0);
+        return scan::past_strides(s, at, 127, 13, 13, 0, 0, 0);
     }
     at
 }

@@ -6,16 +6,20 @@ use borrow.Author.Needs.{needs}
 use borrow.Author.Tests.{not-true, not-false}
 use Rattle.scan.specs.Scan.{past, past-on, past-stop, past-end}
 use Rattle.html.specs.Reading.{asIs}
+use Rattle.html.proofs.AsIs.{as-is-strides}
 use Rattle.html.proofs.as_is_end.Statement.{statement}
 use Rattle.html.proofs.as_is_end.Tie as tie
 
-ruleset turns = (past-on, past-stop, past-end, not-true, not-false, needs)
+ruleset turns = (as-is-strides, past-on, past-stop, past-end, not-true, not-false, needs)
 
 abbrev Inv-loop : tie.InvT-loop
 Inv-loop s at mark i₀ i = past (asIs mark) s i ≡ past (asIs mark) s at
 
 abbrev μ-loop : tie.MeasureT-loop
 μ-loop s at mark i₀ i = length s - i
+
+past-strides-requires : tie.Need-past-strides-requires Inv-loop μ-loop
+past-strides-requires c κs = search turns
 
 loop-holds : tie.Need-loop-holds Inv-loop μ-loop
 loop-holds c = search turns
@@ -47,6 +51,7 @@ as-is-end-spec =
     (tie.spec
     Inv-loop
     μ-loop
+    past-strides-requires
     loop-holds
     shared-slice-read-stands-as-is
     stands-as-is-requires

@@ -11,10 +11,10 @@ use Rattle.scan.proofs.past_strides.Tie as tie
 ruleset turns = (strides-on, strides-stop, strides-end, needs)
 
 abbrev Inv-loop : tie.InvT-loop
-Inv-loop s at top lo hi other i₀ i = pastStrides (clear top lo hi other) s i ≡ pastStrides (clear top lo hi other) s at
+Inv-loop s at top lo hi from to other i₀ i = pastStrides (clear top lo hi from to other) s i ≡ pastStrides (clear top lo hi from to other) s at
 
 abbrev μ-loop : tie.MeasureT-loop
-μ-loop s at top lo hi other i₀ i = length s - i
+μ-loop s at top lo hi from to other i₀ i = length s - i
 
 loop-holds : tie.Need-loop-holds Inv-loop μ-loop
 loop-holds c = search turns
