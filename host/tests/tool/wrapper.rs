@@ -10,19 +10,19 @@ use crate::run::{Folder, Ran, TOOL};
 const WRAPPER: &str = concat!(env!("CARGO_MANIFEST_DIR"), "/../notice");
 const NOTE: &[u8] = b"Take `4 mg`.\n";
 const PAGE: &str = "<p>Take <code>4 mg</code>.</p>\n";
-const LIBRARY: &str = "root/target/staticlib/libnotice_c.a";
-const BUILT: &str = "root/host/target/release/notice";
+const LIBRARY: &str = "repository/target/staticlib/libnotice_c.a";
+const BUILT: &str = "repository/host/target/release/notice";
 
 /// A repository whose `rt` and `cargo` note each call in the file `calls`.
 fn repository() -> Folder {
     let folder = Folder::new();
-    folder.write("root/crates/notice/src/lib.rt", b"");
-    folder.write("root/crates.txt", b"");
-    folder.write("root/host/src/lib.rs", b"");
-    folder.write("root/host/build.rs", b"");
-    folder.write("root/host/Cargo.toml", b"");
+    folder.write("repository/crates/notice/src/lib.rt", b"");
+    folder.write("repository/crates.txt", b"");
+    folder.write("repository/host/src/lib.rs", b"");
+    folder.write("repository/host/build.rs", b"");
+    folder.write("repository/host/Cargo.toml", b"");
     folder.write("ward/note.md", NOTE);
-    std::fs::copy(WRAPPER, folder.path().join("root/notice")).expect("the wrapper");
+    std::fs::copy(WRAPPER, folder.path().join("repository/notice")).expect("the wrapper");
     program(
         &folder,
         "rt",
@@ -77,7 +77,7 @@ const CARGO: &str = "cargo build --release --offline --bin notice \
 #[test]
 fn builds_what_is_missing_and_runs_the_tool() {
     let folder = repository();
-    let first = run(&folder, "../root/notice", &["page", "note.md"]);
+    let first = run(&folder, "../repository/notice", &["page", "note.md"]);
     assert_eq!((first.status, first.out.as_str()), (Some(0), PAGE));
     assert_eq!(first.err.lines().count(), 2, "{}", first.err);
     assert!(first
@@ -86,7 +86,7 @@ fn builds_what_is_missing_and_runs_the_tool() {
         .all(|line| line.starts_with("notice: building ")));
     assert_eq!(calls(&folder), [RT, CARGO]);
     assert_eq!(
-        run(&folder, "../root/notice", &["page", "note.md"]).good(),
+        run(&folder, "../repository/notice", &["page", "note.md"]).good(),
         PAGE
     );
     assert_eq!(calls(&folder), [""; 0]);
@@ -95,24 +95,24 @@ fn builds_what_is_missing_and_runs_the_tool() {
 #[test]
 fn leaves_standard_input_to_the_tool() {
     let folder = repository();
-    let ran = run(&folder, "../root/notice", &["page", "-"]);
+    let ran = run(&folder, "../repository/notice", &["page", "-"]);
     assert_eq!((ran.status, ran.out.as_str()), (Some(0), PAGE));
 }
 
 #[test]
 fn passes_arguments_and_the_exit_status_on() {
     let folder = repository();
-    run(&folder, "../root/notice", &["--version"]);
+    run(&folder, "../repository/notice", &["--version"]);
     let ran = run(
         &folder,
-        "../root/notice",
+        "../repository/notice",
         &["where", "a  \"*'$x", "note.md"],
     );
     assert!(ran.bad(7).starts_with("note.md:1:1: refusal 7: "));
-    assert!(run(&folder, "../root/notice", &[])
+    assert!(run(&folder, "../repository/notice", &[])
         .bad(64)
         .contains("no command"));
-    symlink("../root/notice", folder.path().join("bin/notice")).expect("a link");
+    symlink("../repository/notice", folder.path().join("bin/notice")).expect("a link");
     assert_eq!(
         run(&folder, "../bin/notice", &["page", "note.md"]).good(),
         PAGE
@@ -122,7 +122,7 @@ fn passes_arguments_and_the_exit_status_on() {
 #[test]
 fn builds_again_what_is_older_than_its_sources() {
     let folder = repository();
-    run(&folder, "../root/notice", &["--version"]);
+    run(&folder, "../repository/notice", &["--version"]);
     calls(&folder);
     let later = SystemTime::now() + Duration::from_secs(1);
     let touch = |name: &str, time| {
@@ -134,13 +134,13 @@ fn builds_again_what_is_older_than_its_sources() {
     };
     let earlier = SystemTime::now() - Duration::from_secs(60);
     touch(LIBRARY, earlier);
-    run(&folder, "../root/notice", &["--version"]);
+    run(&folder, "../repository/notice", &["--version"]);
     assert_eq!(calls(&folder), [RT, CARGO]);
     touch(BUILT, earlier);
-    run(&folder, "../root/notice", &["--version"]);
+    run(&folder, "../repository/notice", &["--version"]);
     assert_eq!(calls(&folder), [CARGO]);
-    touch("root/host/src/lib.rs", later);
-    run(&folder, "../root/notice", &["--version"]);
+    touch("repository/host/src/lib.rs", later);
+    run(&folder, "../repository/notice", &["--version"]);
     assert_eq!(calls(&folder), [CARGO]);
 }
 
@@ -148,7 +148,7 @@ fn builds_again_what_is_older_than_its_sources() {
 fn says_what_could_not_be_built() {
     let folder = repository();
     program(&folder, "rt", "echo not proved >&2; exit 1");
-    let err = run(&folder, "../root/notice", &["page", "note.md"]).bad(69);
+    let err = run(&folder, "../repository/notice", &["page", "note.md"]).bad(69);
     assert!(err.contains("\nnot proved\n"), "{err}");
     assert!(
         err.ends_with("notice: can't build the proved library: rt failed\n"),
@@ -156,7 +156,7 @@ fn says_what_could_not_be_built() {
     );
     assert_eq!(calls(&folder), [RT]);
     program(&folder, "rt", "true");
-    let err = run(&folder, "../root/notice", &["page", "note.md"]).bad(69);
+    let err = run(&folder, "../repository/notice", &["page", "note.md"]).bad(69);
     assert!(
         err.ends_with("notice: can't build the proved library: rt failed\n"),
         "{err}"
