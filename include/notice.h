@@ -29,7 +29,7 @@
  * tables and the page buffer hold before the call does not matter.
  *
  * The library has no state, allocates no memory and calls nothing but memset and memcpy. Any number of threads may call it at
- * once, each with buffers of its own. A call takes less than 4,096 bytes of stack, whatever the note.
+ * once, each with buffers of its own. A call takes less than 2,048 bytes of stack for itself, whatever the note; this is measured.
  *
  *
  * Answers
