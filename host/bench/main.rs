@@ -1,8 +1,9 @@
 //! Times the proved reader and page writer on the notes of the benchmark, beside the second reader
 //! and, where they are installed, cmark-gfm and md4c. `docs/BENCHMARK.md` says what is measured.
 //!
-//! `cargo run --release --offline --manifest-path host/Cargo.toml --bin bench [NOTE...]`
+//! `cargo run --release --offline --manifest-path host/Cargo.toml --bin bench [--growth] [NOTE...]`
 
+mod growth;
 mod libraries;
 mod measure;
 mod ours;
@@ -17,12 +18,19 @@ use ours::Lent;
 use table::Line;
 
 fn main() -> ExitCode {
-    let names: Vec<String> = std::env::args().skip(1).collect();
+    let mut names: Vec<String> = std::env::args().skip(1).collect();
+    let growth = names.first().is_some_and(|word| word == "--growth");
+    if growth {
+        names.remove(0);
+    }
     let chosen = |note: &BenchNote| names.is_empty() || names.iter().any(|name| name == note.name);
     let notes: Vec<BenchNote> = bench_notes::all().into_iter().filter(chosen).collect();
     if notes.is_empty() {
         eprintln!("bench: no note is named {}", names.join(", "));
         return ExitCode::from(2);
+    }
+    if growth {
+        return growth::run(chosen);
     }
     let cmark_gfm = CmarkGfm::find();
     let md4c = Md4c::find();

@@ -16,30 +16,41 @@ const WORDS: &[&str] = &[
 const DRUGS: &[&str] = &[
     "heparin", "insulin", "morphine", "propofol", "fentanyl", "oxytocin", "dopamine", "ketamine",
 ];
-/// How many definitions `references` and `notice` have.
-const REFERENCES: usize = 500;
 const NOTICE_DEFINITIONS: usize = 60;
-/// Where `notice` ends: a notice of a few pages.
-const NOTICE_LENGTH: usize = 16_000;
 
 /// All notes of the benchmark, the same in every run.
 pub fn all() -> Vec<BenchNote> {
+    of_size(LONGEST_NOTE)
+}
+
+/// The same notes for a limit of `most` bytes in place of the longest note: all of them get shorter alike.
+pub fn of_size(most: usize) -> Vec<BenchNote> {
     let chance = &mut Chance::from_seed(7);
+    let share = |count: usize| count * most / LONGEST_NOTE;
+    let repeated = |piece: &str| piece.repeat(most / piece.len());
     let notes = vec![
-        ("references", references(chance)),
-        ("backticks", backticks()),
-        ("brackets", "[".repeat(1_024)),
-        ("notice", notice(chance)),
-        ("prose", prose(chance)),
-        ("open_tails", longest_of("[a](b")),
-        ("nested", nested()),
-        ("stray_close", longest_of("a]")),
-        ("empty_links", longest_of("[]()")),
-        ("labels", "[a".repeat(900) + "]"),
-        ("angle_tails", longest_of("[a](<b")),
-        ("title_tails", longest_of("[a](b \"")),
-        ("escapes", longest_of("\\[\\]")),
-        ("definitions", definitions()),
+        ("references", references(chance, share(500), most)),
+        ("backticks", backticks(most)),
+        ("brackets", "[".repeat(share(1_024))),
+        ("notice", notice(chance, share(16_000))),
+        ("prose", prose(chance, most)),
+        ("open_tails", repeated("[a](b")),
+        ("nested", nested(share(260))),
+        ("stray_close", repeated("a]")),
+        ("empty_links", repeated("[]()")),
+        ("labels", "[a".repeat(share(900)) + "]"),
+        ("angle_tails", repeated("[a](<b")),
+        ("title_tails", repeated("[a](b \"")),
+        ("escapes", repeated("\\[\\]")),
+        ("definitions", definitions(most)),
+        ("escaped_ticks", repeated("``\\")),
+        ("many_paragraphs", repeated("a\n\n")),
+        (
+            "deep_parentheses",
+            "[a](".to_string() + &"(".repeat(share(8_000)),
+        ),
+        ("empty_tails", repeated("[](")),
+        ("bracket_words", repeated("[a] ")),
     ];
     notes
         .into_iter()
@@ -50,22 +61,17 @@ pub fn all() -> Vec<BenchNote> {
         .collect()
 }
 
-/// The piece over and over, as often as it fits in a note.
-fn longest_of(piece: &str) -> String {
-    piece.repeat(LONGEST_NOTE / piece.len())
-}
-
-/// Many definitions, and references to them up to the longest note.
-fn references(chance: &mut Chance) -> String {
+/// So many definitions, and references to them up to the limit.
+fn references(chance: &mut Chance, definitions: usize, most: usize) -> String {
     let mut note = String::new();
-    for number in 0..REFERENCES {
+    for number in 0..definitions {
         note += &format!("[limit {number}]: /q/{number}\n");
     }
     note += "\n";
     let mut line = 0;
     loop {
-        let reference = format!("[limit {}]", chance.below(REFERENCES));
-        if note.len() + 1 + reference.len() > LONGEST_NOTE {
+        let reference = format!("[limit {}]", chance.below(definitions));
+        if note.len() + 1 + reference.len() > most {
             return note;
         }
         note += &reference;
@@ -76,10 +82,10 @@ fn references(chance: &mut Chance) -> String {
 }
 
 /// Backtick runs of every length, so that none has another of its length after it.
-fn backticks() -> String {
+fn backticks(most: usize) -> String {
     let mut note = String::new();
     let mut length = 1;
-    while note.len() + length < LONGEST_NOTE {
+    while note.len() + length < most {
         note += &"`".repeat(length);
         note += "a";
         length += 1;
@@ -87,15 +93,15 @@ fn backticks() -> String {
     note
 }
 
-/// A plausible notice: definitions, then prose with references, code spans and inline links.
-fn notice(chance: &mut Chance) -> String {
+/// A plausible notice of a few pages, up to a line past `length`: definitions, then prose with references, code spans and inline links.
+fn notice(chance: &mut Chance, length: usize) -> String {
     let mut note = String::new();
     for number in 0..NOTICE_DEFINITIONS {
         let drug = DRUGS[number % DRUGS.len()];
         note += &format!("[{drug} max {number}]: /q3/{drug}/{number}.pdf \"limits of June\"\n");
     }
     note += "\n";
-    while note.len() < NOTICE_LENGTH {
+    while note.len() < length {
         let line: Vec<String> = (0..14).map(|_| notice_word(chance)).collect();
         note += &line.join(" ");
         note += if chance.once_in(5) { "\n\n" } else { "\n" };
@@ -116,29 +122,29 @@ fn notice_word(chance: &mut Chance) -> String {
     }
 }
 
-/// Words and spaces alone, one paragraph of the longest note.
-fn prose(chance: &mut Chance) -> String {
+/// Words and spaces alone, one paragraph.
+fn prose(chance: &mut Chance, most: usize) -> String {
     let mut note = String::new();
-    while note.len() < LONGEST_NOTE {
+    while note.len() < most {
         note += chance.one_of(WORDS);
         note += " ";
     }
-    note.truncate(LONGEST_NOTE);
+    note.truncate(most);
     note
 }
 
-/// Pairs of brackets inside each other, 60 deep, again and again.
-fn nested() -> String {
+/// Pairs of brackets inside each other, 60 deep, so many times.
+fn nested(times: usize) -> String {
     let deep = "[".repeat(60) + "a" + &"]".repeat(60) + " ";
-    deep.repeat(260)
+    deep.repeat(times)
 }
 
 /// Short definitions and nothing else.
-fn definitions() -> String {
+fn definitions(most: usize) -> String {
     let mut note = String::new();
     for number in 0.. {
         let definition = format!("[{number}]:b\n");
-        if note.len() + definition.len() > LONGEST_NOTE {
+        if note.len() + definition.len() > most {
             break;
         }
         note += &definition;

@@ -1,0 +1,67 @@
+//! How the time grows with the note: each note at a quarter, at half and at the whole of the longest size.
+
+use std::process::ExitCode;
+
+use host::generate::bench_notes::{self, BenchNote};
+use host::second::LONGEST_NOTE;
+
+use crate::measure::{best_times, Candidate};
+use crate::ours::Lent;
+
+/// What a note of twice the size may take, in times of the other.
+const MOST: f64 = 2.2;
+/// Its time grows with the definitions as well.
+const EXCEPTED: &str = "references";
+const SIZES: [usize; 3] = [LONGEST_NOTE / 4, LONGEST_NOTE / 2, LONGEST_NOTE];
+
+/// Prints the growth of the notes that are chosen, and fails where one grows too fast.
+pub fn run(chosen: impl Fn(&BenchNote) -> bool) -> ExitCode {
+    let notes = SIZES.map(|size| bench_notes::of_size(size));
+    println!("Times the time of half the size, the best of many rounds. At most {MOST}.\n");
+    println!("| note | reader, half / quarter | whole / half | page writer, half / quarter | whole / half |");
+    println!("|---|--:|--:|--:|--:|");
+    let mut good = true;
+    for place in 0..notes[0].len() {
+        let sizes = [0, 1, 2].map(|size| &notes[size][place]);
+        if chosen(sizes[0]) {
+            let grown = growth(sizes);
+            let cells = grown.map(|times| format!("{times:.2}"));
+            println!("| {} | {} |", sizes[0].name, cells.join(" | "));
+            good &= sizes[0].name == EXCEPTED || grown.iter().all(|times| *times <= MOST);
+        }
+    }
+    if good {
+        return ExitCode::SUCCESS;
+    }
+    println!("\nOver {MOST}: grows too fast.");
+    ExitCode::FAILURE
+}
+
+/// The reader's two steps, and the page writer's.
+fn growth(notes: [&BenchNote; 3]) -> [f64; 4] {
+    let lent = notes.map(|note| Lent::for_note(&note.bytes));
+    let reader = times(notes, lent.clone(), Lent::read);
+    let page_writer = times(notes, lent, Lent::render);
+    let step = |times: [f64; 3], size: usize| times[size] / times[size - 1];
+    [
+        step(reader, 1),
+        step(reader, 2),
+        step(page_writer, 1),
+        step(page_writer, 2),
+    ]
+}
+
+/// The best times of a call on each of the notes.
+fn times<T>(
+    notes: [&BenchNote; 3],
+    lent: [Lent; 3],
+    call: impl Fn(&mut Lent, &[u8]) -> T,
+) -> [f64; 3] {
+    let [mut first, mut second, mut third] = lent;
+    let mut candidates = [
+        Some(Candidate::new(|| call(&mut first, &notes[0].bytes))),
+        Some(Candidate::new(|| call(&mut second, &notes[1].bytes))),
+        Some(Candidate::new(|| call(&mut third, &notes[2].bytes))),
+    ];
+    best_times(&mut candidates).map(|time| time.unwrap_or(f64::INFINITY))
+}
