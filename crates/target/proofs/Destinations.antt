@@ -17,6 +17,7 @@ use Rattle.target.specs.Target.{control, Raw, Between, Destination, angl
 use Rattle.target.specs.Reading.{rawRun, judged, destinationOf}
 use Rattle.target.specs.declared.Run.{Run}
 use Rattle.target.specs.declared.Part.the-variants.{Span, Nothing}
+use Rattle.target.proofs.Parentheses.{balanced-iff}
 use Rattle.target.proofs.Raw.{RunAt, rawRun-iff}
 use Rattle.target.proofs.Delimited.{span-eq, never, or-nothing, front, enclosed-iff, between-parts, Parts, Placed, placed, Within, placed-within}
 
@@ -43,7 +44,7 @@ raw-sound s at a e n r u m j =
       from = 0;
       content = m .run;
       more = m .more;
-      destination = raw (record { run = m .longest; unangled = u; nonempty = omega (arith, j .nonempty, m .place); balanced = rw (j .balanced) at (m .parens) });
+      destination = raw (record { run = m .longest; unangled = u; nonempty = omega (arith, j .nonempty, m .place); closed = balanced-iff (m .run) .1 (rw (j .balanced) at (m .leaves)) });
       start = omega (arith, j .start);
       end = omega (arith, j .start, j .end, m .place);
       past = omega (arith, j .end, j .past);
@@ -52,7 +53,7 @@ raw-sound s at a e n r u m j =
 raw-complete : (s : List ℕ) (at : ℕ) {l more : List ℕ} → Raw s l more → destinationOf s at ≡ Span at (at + length l) (at + length l)
 unfolding destinationOf judged
 raw-complete s at {l} {more} r =
-    let q = rawRun-iff s at (record { end = at + length l; depth = 0 }) .1 (record { run = l; more = more; longest = r .run; parens = r .balanced; place = refl }) in
+    let q = rawRun-iff s at (record { end = at + length l; depth = 0 }) .1 (record { run = l; more = more; longest = r .run; leaves = balanced-iff l .0 (r .closed); place = refl }) in
     simp (ne-eqb _ 60 (r .unangled), q, ne-eqb (at + length l) at (λ z. omega (arith, r .nonempty)))
 
 -- ---- both forms

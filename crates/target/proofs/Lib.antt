@@ -1,4 +1,6 @@
+pub mod Turns
 pub mod Space
+pub mod Parentheses
 pub mod Raw
 pub mod Delimited
 pub mod Destinations

@@ -15,9 +15,11 @@ use Rattle.scan.specs.Every.{Every}
 use Rattle.scan.specs.Every as every
 use Rattle.scan.specs.Scan.{scan, scan-cons}
 use Rattle.scan.proofs.Closing.{slash}
-use Rattle.target.specs.Target.{control, Parens, none, escape, opened, closed, byte, Longest}
-use Rattle.target.specs.Reading.{Running, depthAfter, halts, rawFrom, rawRun, halted, passed}
+use Rattle.target.specs.Target.{control, Longest}
+use Rattle.target.specs.Reading.{Running, depthAfter, halts, rawFrom, rawRun}
 use Rattle.target.specs.declared.Run.{Run}
+use Rattle.target.proofs.Turns.{halted, passed}
+use Rattle.target.proofs.Parentheses.{Counted, none, escape, opened, closed, byte, Leaves, leaves-iff, closes-only-opened-iff}
 
 -- ---- the turns
 abbrev state : ℕ → Bool → ℕ → Running
@@ -51,16 +53,16 @@ reaches (b ∷ s) at d inside =
 abbrev Over : ℕ → List ℕ → ℕ → Type 0
 Over d l e = (more : List ℕ) (at : ℕ) → (k : Bool) × (rawFrom (l ++ more) (state at false d) ≡ rawFrom more (state (at + length l) k e))
 
-nil : {d e : ℕ} → Parens d [] e → d ≡ e
+nil : {d e : ℕ} → Counted d [] e → d ≡ e
 nil none = refl
 
-over-byte : (d b e : ℕ) (l : List ℕ) → halts d b false ≡ false → depthAfter d b false ≡ d → escapes (b ∷ l) ≡ false → Parens d l e → Over d l e → Over d (b ∷ l) e
+over-byte : (d b e : ℕ) (l : List ℕ) → halts d b false ≡ false → depthAfter d b false ≡ d → escapes (b ∷ l) ≡ false → Counted d l e → Over d l e → Over d (b ∷ l) e
 over-byte d b e [] h k x t f more at = (escapes (b ∷ more), pass b more at d false h refl (k ∙ nil t) ∙ ap (λ (i : ℕ). rawFrom more (state i (escapes (b ∷ more)) e)) (omega arith))
 over-byte d b e (c ∷ l) h k x t f more at =
     let (i, q) = f more (at + 1) in
     (i, pass b (c ∷ l ++ more) at d false h x k ∙ q ∙ ap (λ (j : ℕ). rawFrom more (state j i e)) (omega arith))
 
-over : {d e : ℕ} {l : List ℕ} → Parens d l e → Clean l → Over d l e
+over : {d e : ℕ} {l : List ℕ} → Counted d l e → Clean l → Over d l e
 unfolding depthAfter
 over {d} none every.none more at = (false, ap (λ (i : ℕ). rawFrom more (state i false d)) (sym (add-zero at)))
 over {d} {e} (escape {p = p} {l = l} x t) (every.more c (every.more c′ cs)) more at =
@@ -86,17 +88,17 @@ record Ran (s : List ℕ) (at d : ℕ) (r : Run) : Type 0 where
   whole : s ≡ l ++ more
   place : r .end ≡ at + length l
   clean : Clean l
-  parens : Parens d l (r .depth)
+  counted : Counted d l (r .depth)
 
 here : (s : List ℕ) (at d : ℕ) → Ran s at d (record { end = at; depth = d })
-here s at d = record { l = []; more = s; whole = refl; place = sym (add-zero at); clean = every.none; parens = none }
+here s at d = record { l = []; more = s; whole = refl; place = sym (add-zero at); clean = every.none; counted = none }
 
 deep : {d : ℕ} → eqb d 0 ≡ false → 0 < d
 deep {d} e = let n = eqb-false d 0 e in omega arith
 
-parens-more : (d b : ℕ) {l : List ℕ} {e : ℕ} → halts d b false ≡ false → escapes (b ∷ l) ≡ false → Parens (depthAfter d b false) l e → Parens d (b ∷ l) e
+counted-more : (d b : ℕ) {l : List ℕ} {e : ℕ} → halts d b false ≡ false → escapes (b ∷ l) ≡ false → Counted (depthAfter d b false) l e → Counted d (b ∷ l) e
 unfolding depthAfter
-parens-more d b {l} {e} h x t =
+counted-more d b {l} {e} h x t =
     by (eqb b 41)
     (λ k. rw (eqb-true b 41 k) (closed (deep (rw k at (neither (control b) (eqb b 41 && eqb d 0) h .1))) (rw k at t)))
     (λ k. by (eqb b 40)
@@ -115,7 +117,7 @@ byte-more b s at d h x m =
       whole = ap (λ (i : List ℕ). b ∷ i) (m .whole);
       place = omega arith;
       clean = every.more {b = b} (simp (neither (control b) (eqb b 41 && eqb d 0) h .0)) (m .clean);
-      parens = parens-more d b h (unescaped b (m .l) (m .more) (rw (m .whole) at x)) (m .parens);
+      counted = counted-more d b h (unescaped b (m .l) (m .more) (rw (m .whole) at x)) (m .counted);
     }
 
 escape-more : (p : ℕ) (s : List ℕ) (at d : ℕ) {r : Run} → punctuation p ≡ true → control p ≡ false → Ran s (at + 1 + 1) d r → Ran (92 ∷ p ∷ s) at d r
@@ -126,7 +128,7 @@ escape-more p s at d x c m =
       whole = ap (λ (i : List ℕ). 92 ∷ p ∷ i) (m .whole);
       place = omega arith;
       clean = every.more refl (every.more {b = p} (simp c) (m .clean));
-      parens = escape x (m .parens);
+      counted = escape x (m .counted);
     }
 
 -- ASCII punctuation is no control byte
@@ -173,34 +175,35 @@ pub record RunAt (s : List ℕ) (at : ℕ) (r : Run) : Type 0 where
   pub run : List ℕ
   pub more : List ℕ
   pub longest : Longest s run more
-  pub parens : Parens 0 run (r .depth)
+  pub leaves : Leaves (r .depth) run
   pub place : r .end ≡ at + length run
 
 -- an admissible front lies within the run
-within : (s : List ℕ) (at : ℕ) (k rest : List ℕ) {e : ℕ} → s ≡ k ++ rest → Clean k → Parens 0 k e → Reaches (at + length k) e (rawRun s at)
+within : (s : List ℕ) (at : ℕ) (k rest : List ℕ) {e : ℕ} → s ≡ k ++ rest → Clean k → Leaves e k → Reaches (at + length k) e (rawRun s at)
 unfolding rawRun
-within s at k rest {e} w c p = let (inside, q) = over p c rest at in rw (w, q) (reaches rest (at + length k) e inside)
+within s at k rest {e} w c p = let (inside, q) = over (leaves-iff e k .0 p) c rest at in rw (w, q) (reaches rest (at + length k) e inside)
 
 found : (s : List ℕ) (at : ℕ) → RunAt s at (rawRun s at)
 unfolding rawRun
 found s at =
     let m = sound s at 0 in
+    let left = leaves-iff _ (m .l) .1 (m .counted) in
     record {
       run = m .l;
       more = m .more;
       longest =
           record {
             whole = m .whole;
-            admissible = record { clean = m .clean; depth = _; parens = m .parens };
-            longest = λ k rest w a. omega (arith, within s at k rest w (a .clean) (a .parens) .0, m .place);
+            admissible = record { clean = m .clean; parentheses = closes-only-opened-iff (m .l) .1 (_, left) };
+            longest = λ k rest w a. omega (arith, within s at k rest w (a .clean) (closes-only-opened-iff k .0 (a .parentheses) .1) .0, m .place);
           };
-      parens = m .parens;
+      leaves = left;
       place = m .place;
     }
 
 same : (s : List ℕ) (at : ℕ) (r : Run) → RunAt s at r → RunAt s at (rawRun s at) → rawRun s at ≡ r
 same s at r m f =
-    let (most, deep) = within s at (m .run) (m .more) (m .longest .whole) (m .longest .admissible .clean) (m .parens) in
+    let (most, deep) = within s at (m .run) (m .more) (m .longest .whole) (m .longest .admissible .clean) (m .leaves) in
     let least = m .longest .longest (f .run) (f .more) (f .longest .whole) (f .longest .admissible) in
     let e : rawRun s at .end ≡ r .end = omega (arith, m .place, f .place) in
     let d : rawRun s at .depth ≡ r .depth = deep (e ∙ m .place) in

@@ -2,9 +2,11 @@
 use Prim.Native.Nat.{ℕ}
 use Prim.Native.String.{String}
 use mathlib.Core.Path.{_≡_, refl}
+use mathlib.Core.List.{[]}
 use Rattle.scan.specs.Ascii.{ascii}
 use Rattle.scan.specs.Scan.{scan}
 use Rattle.scan.specs.Closing.{closingStep, closing}
+use Rattle.target.specs.Target.{Balanced, none, escape, byte, group, ClosesOnlyOpened, balanced, opened}
 use Rattle.target.specs.Reading.{spaceFrom, spaceRun, depthAfter, rawStep, rawRun, judged, destinationOf, closer, titleOf}
 use Rattle.target.specs.declared.Part.{Part}
 use Rattle.target.specs.declared.Part.the-variants.{Span, Nothing}
@@ -25,11 +27,14 @@ raw-destinations : (destinationIn "foo\\)\\:" ≡ Span 0 7 7)
     × (destinationIn "/my uri" ≡ Span 0 3 3)
     × (destinationIn "a\\(b" ≡ Span 0 4 4)
     × (destinationIn "a\\\\(b" ≡ Nothing)
+    × (destinationIn "(a\\)" ≡ Nothing)
+    × (destinationIn "(a\\))" ≡ Span 0 5 5)
+    × (destinationIn "a\\ b" ≡ Span 0 2 2)
     × (destinationIn ")" ≡ Nothing)
     × (destinationIn " a" ≡ Nothing)
     × (destinationIn "" ≡ Nothing)
 unfolding scan depthAfter rawStep rawRun judged destinationOf
-raw-destinations = (refl, refl, refl, refl, refl, refl, refl, refl, refl, refl)
+raw-destinations = (refl, refl, refl, refl, refl, refl, refl, refl, refl, refl, refl, refl, refl)
 
 angled-destinations : (destinationIn "<b)c>" ≡ Span 1 4 5)
     × (destinationIn "<my uri>x" ≡ Span 1 7 8)
@@ -57,3 +62,21 @@ spaces : (spaceIn " \t\n x" ≡ 4)
     × (spaceIn "" ≡ 0)
 unfolding spaceFrom
 spaces = (refl, refl, refl, refl)
+
+-- ---- by construction
+-- a group in a group, and a byte after it
+nested : Balanced [] (ascii "((a)b)c")
+nested = group {k = ascii "(a)b"} {l = ascii "c"} (group {k = ascii "a"} {l = ascii "b"} (byte refl refl none) (byte refl refl none)) (byte refl refl none)
+
+-- the first `)` stands in an escape, the second closes
+escaped : Balanced [] (ascii "(a\\))")
+escaped = group {k = ascii "a\\)"} {l = []} (byte refl refl (escape refl none)) none
+
+-- a `\` at the end of the text is a byte
+slash-ends : Balanced [] (ascii "a\\")
+slash-ends = byte refl refl (byte refl refl none)
+
+-- one parenthesis left open
+left-open : ClosesOnlyOpened (ascii "(a)(b")
+left-open =
+    opened {k = ascii "(a)"} {l = ascii "b"} (group {k = ascii "a"} {l = []} (byte refl refl none) none) (balanced (byte refl refl none))

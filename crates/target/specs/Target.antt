@@ -1,5 +1,5 @@
 -- Separating space, link destination and link title: what they are.
-use Prim.Native.Nat.{ℕ, _+_, _-_, _≤_, _<_}
+use Prim.Native.Nat.{ℕ, _+_, _≤_, _<_}
 use mathlib.Core.Path.{_≡_}
 use mathlib.Core.List.{List, [], _∷_, _++_}
 use mathlib.Core.Bool.{Bool, true, false, cond, not, _||_}
@@ -24,20 +24,23 @@ pub record Space (l : List ℕ) : Type 0 where
 abbrev pub control : ℕ → Bool
 control b = ltb b 33 || eqb b 127
 
--- Where d parentheses are open before l, e are open after it, and l closes none that is not open.
--- "escapes are read from its start and never overlap": a parenthesis in an escape neither opens nor closes.
-pub data Parens : ℕ → List ℕ → ℕ → Type 0 where
-  none : {d : ℕ} → Parens d [] d
-  escape : {d e p : ℕ} {l : List ℕ} → punctuation p ≡ true → Parens d l e → Parens d (92 ∷ p ∷ l) e
-  opened : {d e : ℕ} {l : List ℕ} → Parens (d + 1) l e → Parens d (40 ∷ l) e
-  closed : {d e : ℕ} {l : List ℕ} → 0 < d → Parens (d - 1) l e → Parens d (41 ∷ l) e
-  byte : {d e b : ℕ} {l : List ℕ} → (eqb b 40 || eqb b 41) ≡ false → escapes (b ∷ l) ≡ false → Parens d l e → Parens d (b ∷ l) e
+-- All parentheses of l are closed, where `after` follows l. "escapes are read from its start and never overlap": a parenthesis in an escape
+-- neither opens nor closes, and a `\` before punctuation is no byte by itself, even where the punctuation is the `)` that closes the group.
+pub data Balanced : List ℕ → List ℕ → Type 0 where
+  none : {after : List ℕ} → Balanced after []
+  escape : {after l : List ℕ} {p : ℕ} → punctuation p ≡ true → Balanced after l → Balanced after (92 ∷ p ∷ l)
+  byte : {after l : List ℕ} {b : ℕ} → (eqb b 40 || eqb b 41) ≡ false → escapes (b ∷ (l ++ after)) ≡ false → Balanced after l → Balanced after (b ∷ l)
+  group : {after k l : List ℕ} → Balanced (41 ∷ []) k → Balanced after l → Balanced after (40 ∷ (k ++ 41 ∷ l))
+
+-- "never closes an unescaped parenthesis it has not opened": l is balanced, but for some `(` that it leaves open
+pub data ClosesOnlyOpened : List ℕ → Type 0 where
+  balanced : {l : List ℕ} → Balanced [] l → ClosesOnlyOpened l
+  opened : {k l : List ℕ} → Balanced (40 ∷ []) k → ClosesOnlyOpened l → ClosesOnlyOpened (k ++ 40 ∷ l)
 
 -- "characters with no byte below 33 and no 127 that never closes an unescaped parenthesis it has not opened"
 pub record Admissible (l : List ℕ) : Type 0 where
   pub clean : Every (λ b. not (control b)) l
-  pub depth : ℕ
-  pub parens : Parens 0 l depth
+  pub parentheses : ClosesOnlyOpened l
 
 -- "the longest run" of these: s is l and more, and no longer front of s will do. Bytes from 128 on are all admitted,
 -- so that the run ends between two characters.
@@ -52,7 +55,7 @@ pub record Raw (s l more : List ℕ) : Type 0 where
   pub run : Longest s l more
   pub unangled : getD s 0 0 ≡ 60 → ⊥
   pub nonempty : 0 < length l
-  pub balanced : Parens 0 l 0
+  pub closed : Balanced [] l
 
 -- ---- between delimiters
 -- s is `opening`, l, the first unescaped `close`, and more; l has no unescaped `close`, `bar` or `other`

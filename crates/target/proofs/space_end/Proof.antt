@@ -3,7 +3,8 @@ use borrow.Author.Needs.{needs}
 use mathlib.Core.Path.{_≡_}
 use Prim.Native.Nat.{_+_, _-_}
 use lib.ListN.{length, drop}
-use Rattle.target.specs.Reading.{spaceFrom, spaceRun, space-on, space-stop, space-out}
+use Rattle.target.specs.Reading.{spaceFrom, spaceRun}
+use Rattle.target.proofs.Turns.{space-on, space-stop, space-out}
 use Rattle.target.proofs.space_end.Statement.{statement}
 use Rattle.target.proofs.space_end.Tie as tie
 
