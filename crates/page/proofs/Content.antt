@@ -17,9 +17,9 @@ use Rattle.definition.proofs.NotePlaces.{Inside}
 use Rattle.inline.specs.Tails.{Tail, lengthOf}
 use Rattle.note.specs.Note.{MarkingOf}
 use Rattle.page.specs.Page.{ParagraphIs, paragraph}
-use Rattle.page.specs.Reading.{contentFrom, paragraphPage}
+use Rattle.page.specs.Reading.{contentFrom, paragraphPage, from}
 use Rattle.html.specs.Page.{paragraphOpen, paragraphClose}
-use Rattle.page.proofs.Turns.{from, at-end}
+use Rattle.page.proofs.Turns.{at-end}
 use Rattle.page.proofs.Pieces.{RowsHere, closing-role, same-index, grows}
 use Rattle.page.proofs.Texts.{pieceText, texts-are, texts-only}
 use Rattle.page.proofs.Steps.{Stepped, on, past, step}

@@ -13,10 +13,9 @@ pub mod ByRows
 pub mod Safety
 pub mod Lengths
 pub mod Claims
--- cursors into the rows
+-- rows of one sort do not overlap; the parts of a row
+pub mod Extent
 pub mod Apart
-pub mod Cursors
--- the parts of a row
 pub mod Parts
 -- the samples by the law
 pub mod Bench

@@ -30,9 +30,9 @@ use Rattle.inline.proofs.SpanBounds.{SpanWithin, span-within}
 use Rattle.note.specs.Note.{MarkingOf}
 use Rattle.note.proofs.Placing.{part-bytes}
 use Rattle.html.specs.Page.{escaped}
-use Rattle.page.specs.Reading.{rowStart, textEnd, text, firstRow, codeStarts, linkStarts, linkCloses}
+use Rattle.page.specs.Reading.{rowStart, textEnd, text, firstRow, codeStarts, linkStarts, linkCloses, from, Bare}
 use Rattle.page.proofs.Found.{none-if, by-found}
-use Rattle.page.proofs.Turns.{from, Bare, turn-escape, turn-byte, turn-bytes, turn-code, turn-open, turn-close}
+use Rattle.page.proofs.Turns.{turn-escape, turn-byte, turn-bytes, turn-code, turn-open, turn-close}
 use Rattle.page.proofs.Pieces.{RowsHere, grows, opening-role, closing-role, code-at, open-at, close-at, code-found, close-found}
 use Rattle.page.proofs.Texts.{pieceText}
 

@@ -15,6 +15,7 @@ use Rattle.inline.specs.Rows.{rowEnd}
 use Rattle.html.specs.Page.{escaped, linkClose}
 use Rattle.html.specs.Reading.{codeSpan, linkOpen}
 use Rattle.page.specs.Reading.{rowStart, textEnd, text, destination, title, Written, unit, firstRow, codeStarts, linkStarts, linkCloses, writtenBy, writtenAt, contentFrom}
+use Rattle.page.specs.Reading as reading
 
 module _ (s : List ℕ) (rows : List (List ℕ)) where
   content-over : (k : ℕ) (l : List ℕ) (at : ℕ) → contentFrom s rows k l at ≡ contentFrom s rows 0 (drop k l) (at + k)
@@ -34,12 +35,14 @@ module _ (s : List ℕ) (rows : List (List ℕ)) where
 
 -- the paragraph p at place `off` of the note s
 module _ (s : List ℕ) (rows : List (List ℕ)) (p : List ℕ) (off : ℕ) where
-  -- the page of the paragraph from its place a on
-  abbrev pub from : ℕ → List ℕ
-  from a = contentFrom s rows 0 (drop a p) (off + a)
+  abbrev from : ℕ → List ℕ
+  from = reading.from s rows p off
 
-  abbrev pub here : ℕ → Written
-  here a = writtenAt s rows (drop a p) (off + a)
+  abbrev here : ℕ → Written
+  here = reading.here s rows p off
+
+  abbrev Bare : ℕ → Type 0
+  Bare = reading.Bare s rows p off
 
   pub at-end : from (length p) ≡ []
   unfolding contentFrom
@@ -55,12 +58,6 @@ module _ (s : List ℕ) (rows : List (List ℕ)) (p : List ℕ) (off : ℕ) wher
       ap (λ (l : List ℕ). contentFrom s rows 0 l (off + a)) k
       ∙ content-cons s rows (getD p a 0) (drop (a + 1) p) (off + a) n g e
       ∙ rw (z, y) refl
-
-  -- no row stands at the place a
-  pub record Bare (a : ℕ) : Type 0 where
-    pub no-code : firstRow (codeStarts (off + a)) rows ≡ none
-    pub no-opening : firstRow (linkStarts (off + a)) rows ≡ none
-    pub no-closing : firstRow (linkCloses (off + a)) rows ≡ none
 
   bare-unit : (a : ℕ) → Bare a → here a ≡ unit (drop a p)
   unfolding writtenBy

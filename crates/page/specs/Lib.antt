@@ -1,5 +1,4 @@
 pub mod Page
 pub mod Reading
 pub mod Claims
-pub mod Cursor
 pub mod Samples

@@ -1,9 +1,10 @@
 -- The page of a note, from its bytes, its paragraphs and its span rows alone: over the bytes of each paragraph, by the row that stands there.
 use Prim.Native.Nat.{ℕ, zero, suc, _+_, _-_}
+use mathlib.Core.Path.{_≡_}
 use mathlib.Core.Option.{Option, none, some}
 use mathlib.Core.List.{List, [], _∷_, _++_, flatMap}
 use mathlib.Core.Bool.{Bool, true, false, not, _&&_}
-use lib.ListN.{getD}
+use lib.ListN.{getD, drop}
 use lib.Dec.{eqb}
 use Rattle.block.specs.Block.{Placed}
 use Rattle.row.specs.declared.Range.{Range}
@@ -34,7 +35,7 @@ destination r = range (getD r 6 0) (getD r 7 0)
 abbrev pub title : List ℕ → Range
 title r = range (getD r 8 0) (getD r 9 0)
 
--- ---- the row that stands at a place of the note; two cursors find it in one pass over the note, see Cursor
+-- ---- the row that stands at a place of the note
 unfoldable pub firstRow : (List ℕ → Bool) → List (List ℕ) → Option (List ℕ)
 firstRow test [] = none
 firstRow test (r ∷ rows) = elim (test r) [ true ↦ some r | false ↦ firstRow test rows ]
@@ -82,6 +83,23 @@ module _ (s : List ℕ) (rows : List (List ℕ)) where
   unfoldable pub paragraphPage : Placed → List ℕ
   paragraphPage q = paragraphOpen ++ contentFrom 0 (q .bytes) (q .at) ++ paragraphClose
 
+-- ---- at a place of the paragraph p, which starts at place `off` of the note s
+module _ (s : List ℕ) (rows : List (List ℕ)) (p : List ℕ) (off : ℕ) where
+  -- the page of the paragraph from its place a on
+  abbrev pub from : ℕ → List ℕ
+  from a = contentFrom s rows 0 (drop a p) (off + a)
+
+  -- what is written there
+  abbrev pub here : ℕ → Written
+  here a = writtenAt s rows (drop a p) (off + a)
+
+  -- no row stands there
+  pub record Bare (a : ℕ) : Type 0 where
+    pub no-code : firstRow (codeStarts (off + a)) rows ≡ none
+    pub no-opening : firstRow (linkStarts (off + a)) rows ≡ none
+    pub no-closing : firstRow (linkCloses (off + a)) rows ≡ none
+
+-- ---- the page
 -- the page that these rows and paragraphs of the note s call for
 unfoldable pub pageBy : List ℕ → List Placed → List (List ℕ) → List ℕ
 pageBy s ps rows = flatMap (paragraphPage s rows) ps

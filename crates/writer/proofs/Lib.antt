@@ -1,5 +1,6 @@
 -- the rows of the table, and where they stand among the note's
 pub mod Rows
+pub mod Cursors
 pub mod Found
 pub mod Here
 -- the steps of the pass

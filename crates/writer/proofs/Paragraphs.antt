@@ -13,9 +13,9 @@ use Rattle.html.specs.Page.{paragraphOpen, paragraphClose}
 use Rattle.html.specs.Stored.{pageMost, Writes}
 use Rattle.html.proofs.Writing.{Leads, leads, done, both}
 use Rattle.page.specs.Reading.{contentFrom, paragraphPage}
-use Rattle.page.proofs.Cursors.{still-behind}
 use Rattle.writer.specs.declared.Pass.{Pass}
 use Rattle.writer.specs.Pass.{left, Cursors, Stands, Goes, Starts, Ends}
+use Rattle.writer.proofs.Cursors.{still-behind}
 
 pub cursors-later : {s : List ℕ} {p : Pass} {i j : ℕ} → Cursors s p i → i ≤ j → Cursors s p j
 cursors-later c h = record { code = still-behind (c .code) h; link = still-behind (c .link) h }

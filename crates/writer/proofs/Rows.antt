@@ -10,7 +10,7 @@ use Rattle.span.specs.declared.Span.{Span}
 use Rattle.span.specs.Row.{numbers, wholeRows, rowAt, spanAt}
 use Rattle.span.proofs.Read.{numbers-at}
 use Rattle.page.specs.Reading.{rowStart, textEnd}
-use Rattle.page.specs.Cursor.{waits}
+use Rattle.writer.specs.Cursor.{waits}
 use Rattle.writer.specs.Pass.{Finds, nextPlace, rowPlace}
 
 -- ---- a row as it is read

@@ -19,7 +19,7 @@ use Rattle.html.specs.Stored.{pageMost, Writes}
 use Rattle.html.proofs.Writing.{leads, onward, room}
 use Rattle.page.specs.Reading.{isCode, rowStart, textEnd, text, destination, title, Written}
 use Rattle.page.proofs.Turns.{turn}
-use Rattle.page.proofs.Cursors.{row-some, link-text}
+use Rattle.page.proofs.Extent.{row-some, link-text}
 use Rattle.page.proofs.Parts.{parts-in-order}
 use Rattle.writer.specs.declared.Pass.{Pass}
 use Rattle.writer.specs.Pass.{left, byRow, Called, Room, Passes}

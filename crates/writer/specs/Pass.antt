@@ -16,10 +16,9 @@ use Rattle.html.specs.Page.{linkClose}
 use Rattle.html.specs.Reading.{codeSpan, linkOpen}
 use Rattle.html.specs.Stored.{pageMost, Writes}
 use Rattle.html.proofs.Writing.{Leads}
-use Rattle.page.specs.Reading.{isCode, rowStart, textEnd, text, destination, title, Written, paragraphPage}
-use Rattle.page.specs.Cursor.{waits, Behind}
-use Rattle.page.proofs.Turns.{from, here, Bare}
+use Rattle.page.specs.Reading.{isCode, rowStart, textEnd, text, destination, title, Written, paragraphPage, from, here, Bare}
 use Rattle.writer.specs.declared.Pass.{Pass}
+use Rattle.writer.specs.Cursor.{waits, Behind}
 
 -- ---- rows of the table
 -- the search from row `start` on ends at row k: those before it do not wait, and it does, if it is one of the `count` rows

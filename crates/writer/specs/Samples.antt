@@ -8,7 +8,7 @@ use Rattle.scan.specs.Scan.{run}
 use Rattle.html.specs.Page.{escaped, stays, hexDigit, hrefByte}
 use Rattle.html.specs.Reading.{undone, margin, titleAttribute, linkOpen}
 use Rattle.page.specs.Reading.{Written}
-use Rattle.page.specs.Cursor.{waits}
+use Rattle.writer.specs.Cursor.{waits}
 use Rattle.writer.specs.Pass.{nextPlace, rowPlace, byRow}
 
 abbrev note : List ℕ

@@ -2,7 +2,7 @@
 use Prim.Native.Nat.{_-_}
 use mathlib.Core.Path.{sym, ap, _∙_}
 use borrow.Author.Needs.{needs}
-use Rattle.page.specs.Cursor.{waits}
+use Rattle.writer.specs.Cursor.{waits}
 use Rattle.writer.proofs.Rows.{Passed, none-passed, one-passed, found-there, none-there, row-read}
 use Rattle.writer.proofs.next_row.Statement.{statement}
 use Rattle.writer.proofs.next_row.Tie as tie

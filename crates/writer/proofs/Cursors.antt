@@ -2,65 +2,22 @@
 use Prim.Native.Nat.{ℕ, _<_, _≤_}
 use native.Mathlib.Decide.{decLt}
 use native.Mathlib.Omega.{arith}
-use mathlib.Core.Path.{_≡_, refl, sym, ap, _∙_, subst}
+use mathlib.Core.Path.{_≡_, refl, sym, ap, _∙_}
 use mathlib.Core.Option.{Option, none, some, Option·some-injective, Option·none-ne-some}
 use mathlib.Core.List.{List, []}
-use mathlib.Core.Bool.{Bool, true, false, true≢false, not, _&&_}
+use mathlib.Core.Bool.{Bool, true, false, not, _&&_}
 use borrow.Author.Tests.{eqb-true, not-true, leb-true, leb-false, lt-leb}
 use lib.ListN.{getD, getElem?}
 use lib.Dec.{leb}
 use Rattle.scan.specs.Test.{by, and-left, and-right}
-use Rattle.marking.specs.Marking.{Marking}
-use Rattle.marking.specs.Spans.{Span, codeSpan, linkSpan, SpanOf, In}
 use Rattle.marking.proofs.Lists.{at-inside}
-use Rattle.block.specs.Block.{Placed}
-use Rattle.row.specs.declared.Definition.{Definition}
-use Rattle.row.specs.First.{labelsOf}
-use Rattle.inline.specs.Tails.{Tail}
-use Rattle.inline.specs.Rows.{spanRow, rowEnd}
-use Rattle.inline.proofs.SpanBounds.{span-within}
-use Rattle.note.specs.Note.{MarkingOf}
 use Rattle.note.specs.Reading.{spanRows}
-use Rattle.note.proofs.Markings.{marked}
-use Rattle.note.proofs.Rows.{in-rows-iff}
-use Rattle.note.proofs.Spans.{link-read, code-some}
 use Rattle.note.proofs.Placing.{at-getD}
 use Rattle.page.specs.Reading.{isCode, rowStart, textEnd, firstRow, codeStarts, linkStarts, linkCloses}
-use Rattle.page.specs.Cursor.{waits, Behind, Next, passing}
 use Rattle.page.proofs.Found.{by-found, found-in, not-found}
-use Rattle.page.proofs.Here.{marking-of}
+use Rattle.page.proofs.Extent.{row-some, link-text}
 use Rattle.page.proofs.Apart.{rows-apart}
-
--- ---- no row is empty, and a link's text ends within it
-module _ (s : List ℕ) (ds : List Definition) (q : Placed) (m : Marking Tail) (c : MarkingOf s ds q m) where
-  span-some : (x : Span Tail) → SpanOf m x → rowStart (spanRow (q .at) (q .bytes) ds x) < rowEnd (spanRow (q .at) (q .bytes) ds x)
-  span-some (codeSpan y) o = omega (arith, code-some (q .bytes) (labelsOf s ds) m c y o)
-  span-some (linkSpan a b t) o =
-      let r = link-read (q .bytes) (labelsOf s ds) m c a b t o in
-      let w = span-within (q .bytes) (labelsOf s ds) m c (linkSpan a b t) o in
-      omega (arith, r .some-bracket, r .one-bracket, w .text-ordered)
-
-  link-ends : (x : Span Tail) → SpanOf m x → isCode (spanRow (q .at) (q .bytes) ds x) ≡ false
-      → (rowStart (spanRow (q .at) (q .bytes) ds x) < textEnd (spanRow (q .at) (q .bytes) ds x)) × (textEnd (spanRow (q .at) (q .bytes) ds x) < rowEnd (spanRow (q .at) (q .bytes) ds x))
-  link-ends (codeSpan y) o e = absurd (true≢false e)
-  link-ends (linkSpan a b t) o e =
-      let r = link-read (q .bytes) (labelsOf s ds) m c a b t o in
-      let w = span-within (q .bytes) (labelsOf s ds) m c (linkSpan a b t) o in
-      (omega (arith, r .some-bracket, w .text-ordered), omega (arith, r .one-bracket))
-
-module _ (s : List ℕ) where
-  pub row-some : (row : List ℕ) → In row (spanRows s) → rowStart row < rowEnd row
-  row-some row i =
-      let r = in-rows-iff s (marked s) row .0 i in
-      let c = marking-of s (marked s) (r .index) (r .paragraph) (r .marking) (r .paragraph-at) (r .marking-at) in
-      subst (λ (x : List ℕ). rowStart x < rowEnd x) (r .row-is) (span-some s (marked s .definitions) (r .paragraph) (r .marking) c (r .span) (r .of-marking))
-
-  pub link-text : (row : List ℕ) → In row (spanRows s) → isCode row ≡ false → (rowStart row < textEnd row) × (textEnd row < rowEnd row)
-  link-text row i e =
-      let r = in-rows-iff s (marked s) row .0 i in
-      let c = marking-of s (marked s) (r .index) (r .paragraph) (r .marking) (r .paragraph-at) (r .marking-at) in
-      subst (λ (x : List ℕ). (rowStart x < textEnd x) × (textEnd x < rowEnd x)) (r .row-is)
-      (link-ends s (marked s .definitions) (r .paragraph) (r .marking) c (r .span) (r .of-marking) (ap isCode (r .row-is) ∙ e))
+use Rattle.writer.specs.Cursor.{waits, Behind, Next, passing}
 
 -- ---- the first row that passes a test stands at the cursor, if no row before it passes, nor one after the row there
 module _ (test : List ℕ → Bool) (rows : List (List ℕ)) (cursor : ℕ) (before : (j : ℕ) (r : List ℕ) → j < cursor → getElem? rows j ≡ some r → test r ≡ true → ⊥)
