@@ -7,8 +7,8 @@ use mathlib.Core.Bool.{true, false, true≢false}
 use mathlib.Core.Logic.{_↔_}
 use lib.ListN.{length, take, drop, length-append}
 use lib.Seq.{take-at, drop-at}
-use Rattle.scan.specs.Test.{by}
-use Rattle.scan.specs.Leap.{leap}
+use Rattle.scan.proofs.Test.{by}
+use Rattle.scan.specs.Reading.{leap}
 use Rattle.block.specs.Line.{Lines, none, Blank}
 use Rattle.block.specs.Block.{Placed, joined, AllOther, none, more, Over, end, blank, Blocks, block, BlocksOf}
 use Rattle.block.specs.Reading.{blankLine, blockRest, blockLength, partLength, blockHere, blocks}

@@ -9,8 +9,9 @@ use borrow.Author.Tests.{eqb-true, not-true}
 use lib.ListN.{length, take, drop, length-append}
 use lib.Seq.{take-at, drop-at}
 use lib.Dec.{eqb, leb·suc-suc, leb·suc-zero}
-use Rattle.scan.specs.Test.{by}
-use Rattle.scan.specs.Scan.{run, run-yes, run-no}
+use Rattle.scan.proofs.Test.{by}
+use Rattle.scan.specs.Reading.{run}
+use Rattle.scan.proofs.Scan.{run-yes, run-no}
 use Rattle.scan.specs.Every.{Every, none, more}
 use Rattle.block.specs.Line.{padding, inLine, EndOfLine, feed, end, Lines, none, line, last, Blank}
 use Rattle.block.specs.Reading.{blankLine, lineLength, blockRest}

@@ -7,10 +7,9 @@ use mathlib.Core.Bool.{Bool, true, false, true≢false, _&&_}
 use lib.ListN.{length, take, drop, length-drop}
 use lib.Seq.{drop-drop}
 use lib.Dec.{eqb}
-use Rattle.scan.specs.Test.{by}
-use Rattle.scan.specs.Scan.{run}
-use Rattle.scan.specs.Stride.{clear, pastStrides}
-use Rattle.scan.specs.Leap.{leap, leap-cons}
+use Rattle.scan.proofs.Test.{by}
+use Rattle.scan.specs.Reading.{run, clear, pastStrides, leap}
+use Rattle.scan.proofs.Leap.{leap-cons}
 use Rattle.scan.proofs.Strides.{unlike, strides-through}
 use Rattle.block.specs.Reading.{blankLine, lineLength, blockRest, blockLength, partLength, blockHere}
 

@@ -7,7 +7,7 @@ use mathlib.Core.List.{List, [], _∷_, _++_, List·Memᴰ, List·Memᴰ·head, 
 use mathlib.Core.Bool.{true, false}
 use lib.ListN.{length, take, drop, length-append, length-drop}
 use lib.Seq.{take-at, drop-at, drop-drop}
-use Rattle.scan.specs.Leap.{leap}
+use Rattle.scan.specs.Reading.{leap}
 use Rattle.block.specs.Line.{Lines}
 use Rattle.block.specs.Block.{Placed, joined, Blocks, none, blank, block}
 use Rattle.block.specs.Reading.{blankLine, lineLength, blockLength, partLength, blockHere, blocks}

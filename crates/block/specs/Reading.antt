@@ -8,9 +8,9 @@ use borrow.Author.Tests.{eq-eqb, ne-eqb}
 use lib.ListN.{length, getD, take, drop, length-drop, drop-of-length-le}
 use lib.Seq.{getD-drop}
 use lib.Dec.{leb, eqb}
-use Rattle.scan.specs.Test.{leb-same}
-use Rattle.scan.specs.Scan.{run, past, at-cons}
-use Rattle.scan.specs.Leap.{leap}
+use Rattle.scan.proofs.Test.{leb-same}
+use Rattle.scan.specs.Reading.{run, past, leap}
+use Rattle.scan.proofs.Scan.{at-cons}
 use Rattle.block.specs.Line.{padding}
 use Rattle.block.specs.Block.{Placed}
 

@@ -4,8 +4,7 @@ use Prim.Native.String.{String}
 use mathlib.Core.Path.{_≡_, refl}
 use mathlib.Core.List.{List, [], _∷_}
 use Rattle.scan.specs.Ascii.{ascii}
-use Rattle.scan.specs.Scan.{run}
-use Rattle.scan.specs.Leap.{leap}
+use Rattle.scan.specs.Reading.{run, leap}
 use Rattle.block.specs.Block.{Placed}
 use Rattle.block.specs.Reading.{blankLine, lineLength, blockRest, blockLength, partLength, blockHere, blocks}
 

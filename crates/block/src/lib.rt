@@ -2,7 +2,7 @@
 ghost use mathlib.Core.Path.{_≡_};
 ghost use Prim.Native.Nat.{_+_};
 ghost use lib.ListN.{drop};
-ghost use Rattle.scan.specs.Scan.{past};
+ghost use Rattle.scan.specs.Reading.{past};
 ghost use Rattle.block.specs.Line.{padding};
 ghost use Rattle.block.specs.Reading.{lineEnds, blankLine, lineLength, blockLength};
 

@@ -8,9 +8,9 @@ use borrow.Author.Tests.{eqb-true, eq-eqb, leb-true, le-leb}
 use lib.ListN.{length, getD, drop, replicate, length-replicate, length-append}
 use lib.Seq.{drop-at}
 use lib.Dec.{leb, eqb}
-use Rattle.scan.specs.Test.{by}
-use Rattle.scan.specs.Byte.{peek-inside}
-use Rattle.scan.specs.Scan.{past, at-cons}
+use Rattle.scan.proofs.Test.{by}
+use Rattle.scan.proofs.Scan.{peek-inside, at-cons}
+use Rattle.scan.specs.Reading.{past}
 use Rattle.scan.specs.Every.{other}
 use Rattle.scan.specs.declared.Found.{Found}
 use Rattle.scan.specs.declared.Found.the-variants as found

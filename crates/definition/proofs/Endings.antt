@@ -8,7 +8,7 @@ use mathlib.Core.Logic.{_↔_, _⊎_, inl, inr}
 use borrow.Author.Tests.{eqb-false, ne-eqb}
 use lib.ListN.{length, getD, drop}
 use lib.Dec.{eqb}
-use Rattle.scan.specs.Test.{by}
+use Rattle.scan.proofs.Test.{by}
 use Rattle.scan.specs.Byte.{blank}
 use Rattle.scan.specs.declared.Found.{Found}
 use Rattle.scan.specs.declared.Found.the-variants as found

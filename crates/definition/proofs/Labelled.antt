@@ -7,9 +7,8 @@ use mathlib.Core.Logic.{_↔_, inl, inr}
 use borrow.Author.Tests.{eqb-true, eq-eqb}
 use lib.ListN.{length, getD, drop}
 use lib.Dec.{eqb}
-use Rattle.scan.specs.Test.{by}
-use Rattle.scan.specs.Byte.{peek-inside}
-use Rattle.scan.specs.Scan.{at-cons}
+use Rattle.scan.proofs.Test.{by}
+use Rattle.scan.proofs.Scan.{peek-inside, at-cons}
 use Rattle.target.specs.Target.{Space, Destination, DestinationAt}
 use Rattle.target.specs.Reading.{destinationOf}
 use Rattle.target.specs.declared.Part.{Part}

@@ -9,9 +9,11 @@ use borrow.Author.Tests.{le-leb, lt-leb, leb-true, leb-false, eq-eqb, eqb-true}
 use lib.ListN.{length, getD, drop, length-append, length-drop, drop-of-length-le}
 use lib.Seq.{drop-at, drop-drop}
 use lib.Dec.{leb, eqb}
-use Rattle.scan.specs.Test.{by}
-use Rattle.scan.specs.Scan.{run, past, at-cons}
-use Rattle.scan.specs.Every.{Every, Halts, empty, other, run-iff}
+use Rattle.scan.proofs.Test.{by}
+use Rattle.scan.specs.Reading.{run, past}
+use Rattle.scan.proofs.Scan.{at-cons}
+use Rattle.scan.specs.Every.{Every, Halts, empty, other}
+use Rattle.scan.proofs.Every.{run-iff}
 use Rattle.scan.specs.declared.Found.the-variants.{At, Nothing}
 use Rattle.block.specs.Line.{padding, EndOfLine, feed, end}
 use Rattle.definition.specs.Definition.{LineEnd}

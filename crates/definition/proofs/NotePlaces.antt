@@ -9,7 +9,7 @@ use borrow.Author.Tests.{leb-false}
 use lib.ListN.{length, getD, take, drop, length-drop, take-append-drop}
 use lib.Seq.{length-take-le, take-append-le, drop-append-le}
 use lib.Dec.{leb, eqb}
-use Rattle.scan.specs.Test.{by}
+use Rattle.scan.proofs.Test.{by}
 use Rattle.block.specs.Block.{Placed}
 use Rattle.block.proofs.Places as block
 use Rattle.row.specs.declared.Definition.{Definition}

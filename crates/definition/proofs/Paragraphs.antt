@@ -8,7 +8,7 @@ use borrow.Author.Tests.{le-leb, lt-leb, eqb-true, eqb-false, eq-eqb, ne-eqb}
 use lib.ListN.{length, getD, take, drop, length-append, length-drop, drop-of-length-le}
 use lib.Seq.{split-at, take-at, take-all, getD-at, getD-drop}
 use lib.Dec.{eqb}
-use Rattle.scan.specs.Test.{by}
+use Rattle.scan.proofs.Test.{by}
 use Rattle.block.specs.Block.{Placed}
 use Rattle.definition.specs.Note.{Paragraph, none, line, bare}
 use Rattle.definition.specs.Reading.{paragraphEnd, paragraphFrom}

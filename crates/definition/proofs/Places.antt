@@ -5,7 +5,7 @@ use mathlib.Core.Path.{_≡_}
 use mathlib.Core.List.{List}
 use mathlib.Core.Logic.{inl, inr}
 use lib.ListN.{length}
-use Rattle.scan.specs.Scan.{past}
+use Rattle.scan.specs.Reading.{past}
 use Rattle.row.specs.declared.Definition.{Definition}
 use Rattle.definition.specs.Definition.{space}
 use Rattle.definition.specs.Reading.{definitionAt}

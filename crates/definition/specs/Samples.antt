@@ -6,10 +6,8 @@ use mathlib.Core.Path.{_≡_, refl}
 use mathlib.Core.List.{List, [], _∷_}
 use lib.ListN.{length}
 use Rattle.scan.specs.Ascii.{ascii}
-use Rattle.scan.specs.Scan.{scan, run, past}
-use Rattle.scan.specs.Leap.{leap}
-use Rattle.scan.specs.Closing.{closingStep, closing}
-use Rattle.text.specs.Reading.{onesFrom, leadingOnes, sequenceLength, characters}
+use Rattle.scan.specs.Reading.{scan, run, past, leap, closingStep, closing}
+use Rattle.text.specs.Sequences.{onesFrom, leadingOnes, sequenceLength, characters}
 use Rattle.label.specs.Reading.{inky, fitsAfter, fits, labelEnd}
 use Rattle.target.specs.Reading.{spaceFrom, depthAfter, rawStep, rawRun, judged, destinationOf, closer, titleOf}
 use Rattle.block.specs.Block.{Placed}

@@ -1,6 +1,6 @@
 // Link reference definitions of a note, and its paragraphs.
 ghost use mathlib.Core.Path.{_≡_};
-ghost use Rattle.scan.specs.Scan.{past};
+ghost use Rattle.scan.specs.Reading.{past};
 ghost use Rattle.definition.specs.Definition.{space};
 ghost use Rattle.definition.specs.Reading.{lineAfter, titleAfter, endingAfter, afterLabel, definitionAt, paragraphEnd};
 use row::Definition;

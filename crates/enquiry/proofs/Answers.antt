@@ -9,7 +9,7 @@ use mathlib.Core.Bool.{true, false, true≢false}
 use lib.ListN.{length, getD, take, drop, take-append-drop, length-map}
 use lib.Seq.{length-take-le, drop-cons, getD-append-add}
 use Rattle.text.specs.Utf8.{GoodNote}
-use Rattle.scan.specs.Test.{by, and-left, and-right}
+use Rattle.scan.proofs.Test.{by, and-left, and-right}
 use Rattle.scan.specs.declared.Found.{Found}
 use Rattle.scan.specs.declared.Found.the-variants as found
 use Rattle.text.specs.declared.Checked.{Checked}

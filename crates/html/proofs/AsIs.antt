@@ -9,9 +9,9 @@ use lib.ListN.{length, getD, take, drop, length-drop}
 use lib.Dec.{leb, eqb}
 use lib.Seq.{drop-drop, getD-drop}
 use Rattle.scan.specs.Byte.{within}
-use Rattle.scan.specs.Test.{by, and-right, neither}
-use Rattle.scan.specs.Scan.{run, run-yes, run-no, run-fits, past}
-use Rattle.scan.specs.Stride.{clear, pastStrides}
+use Rattle.scan.proofs.Test.{by, and-right, neither}
+use Rattle.scan.specs.Reading.{run, past, clear, pastStrides}
+use Rattle.scan.proofs.Scan.{run-yes, run-no, run-fits}
 use Rattle.scan.proofs.Strides.{unlike, strides-through}
 use Rattle.html.specs.Page.{escaped, spaced}
 use Rattle.html.specs.Reading.{asIs, textOf}

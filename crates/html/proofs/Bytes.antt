@@ -5,7 +5,7 @@ use mathlib.Core.List.{List, [], _∷_}
 use mathlib.Core.Bool.{Bool, true, false, _||_}
 use borrow.Author.Tests.{eq-eqb, ne-eqb}
 use lib.Dec.{eqb}
-use Rattle.scan.specs.Test.{or-assoc, or-false}
+use Rattle.scan.proofs.Test.{or-assoc, or-false}
 use Rattle.scan.specs.Ascii.{ascii}
 use Rattle.html.specs.Page.{escaped, among, stays, percent, hrefByte}
 

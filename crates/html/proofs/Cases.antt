@@ -5,7 +5,7 @@ use mathlib.Core.List.{List, [], _∷_}
 use mathlib.Core.Bool.{true, false}
 use lib.Dec.{eqb}
 use Rattle.scan.specs.Ascii.{ascii}
-use Rattle.scan.specs.Test.{by}
+use Rattle.scan.proofs.Test.{by}
 use Rattle.html.specs.Page.{escaped, among, stays, percent, hrefByte}
 
 pub on-escaped : (P : List ℕ → Type 0) (b : ℕ) → P (ascii "&amp;") → P (ascii "&lt;") → P (ascii "&gt;") → P (ascii "&quot;")

@@ -8,8 +8,8 @@ use mathlib.Core.Logic.{_⊎_, inl, inr, ⊎-elim}
 use borrow.Author.Tests.{le-leb, lt-leb, leb-true, leb-false}
 use lib.ListN.{length, getD, set, drop, drop-of-length-le}
 use lib.Dec.{leb}
-use Rattle.scan.specs.Test.{by}
-use Rattle.scan.specs.Scan.{at-cons}
+use Rattle.scan.proofs.Test.{by}
+use Rattle.scan.proofs.Scan.{at-cons}
 use Rattle.html.specs.Stored.{fits, Writes}
 use Rattle.html.proofs.Writing.{Leads, leads, onward, done, done-past, byte-within}
 

@@ -4,7 +4,7 @@ use mathlib.Core.Path.{_≡_, refl, ap, _∙_}
 use mathlib.Core.List.{List, [], _∷_, flatMap}
 use mathlib.Core.Logic.{_↔_}
 use lib.Dec.{eqb}
-use Rattle.scan.specs.Test.{by, and-false}
+use Rattle.scan.proofs.Test.{by, and-false}
 use Rattle.scan.specs.Byte.{escapes}
 use Rattle.scan.proofs.Closing.{slash}
 use Rattle.html.specs.Page.{Undone, empty, escape, byte, escaped, hrefByte, Text, text, Href, href}

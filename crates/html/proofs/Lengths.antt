@@ -5,7 +5,7 @@ use mathlib.Core.List.{List, [], _∷_, flatMap}
 use lib.ListN.{length, length-append, length-map, length-take, length-drop}
 use lib.Dec.{lit≤}
 use Rattle.scan.specs.Ascii.{ascii}
-use Rattle.scan.specs.Test.{by}
+use Rattle.scan.proofs.Test.{by}
 use Rattle.scan.specs.Byte.{escapes}
 use Rattle.html.specs.Page.{escaped, hrefByte, codeClose}
 use Rattle.html.specs.Reading.{undone, codeContent, textOf, hrefOf, codeOf, codeSpan, titleAttribute, linkOpen}

@@ -7,8 +7,8 @@ use mathlib.Core.Bool.{Bool, true, false, _&&_}
 use lib.ListN.{length, getD}
 use lib.Dec.{ltb}
 use borrow.Author.Tests.{ltb-true}
-use Rattle.scan.specs.Test.{by, and-left, and-right}
-use Rattle.scan.specs.Scan.{run}
+use Rattle.scan.proofs.Test.{by, and-left, and-right}
+use Rattle.scan.specs.Reading.{run}
 use Rattle.html.specs.Reading.{spaceOrLf, margin}
 
 -- the run of n spaces at the front is not empty and does not reach the end

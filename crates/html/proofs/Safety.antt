@@ -7,7 +7,7 @@ use lib.ListN.{getD}
 use lib.Dec.{eqb}
 use borrow.Author.Tests.{eqb-true, not-true}
 use Rattle.scan.specs.Ascii.{ascii}
-use Rattle.scan.specs.Test.{by, and-left, and-right, neither}
+use Rattle.scan.proofs.Test.{by, and-left, and-right, neither}
 use Rattle.scan.specs.Every.{Every, none, more}
 use Rattle.html.specs.Page.{escaped, among, stays, hexDigit, hrefByte}
 use Rattle.html.specs.Reading.{undone, textOf, hrefOf, codeContent, codeOf}

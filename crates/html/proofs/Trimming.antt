@@ -9,9 +9,11 @@ use lib.ListN.{length, getD, take, drop, length-append, length-map, List·getD-m
 use lib.Seq.{take-suc, take-length, take-append-seam, getD-append-seam}
 use lib.Dec.{eqb, ltb}
 use borrow.Author.Tests.{ltb-true, ltb-false, lt-ltb, le-ltb, eqb-true}
-use Rattle.scan.specs.Test.{by, and-left, and-right, and-false, or-false}
-use Rattle.scan.specs.Scan.{run, run-yes, run-no}
-use Rattle.scan.specs.Every.{Every, none, empty, run-iff}
+use Rattle.scan.proofs.Test.{by, and-left, and-right, and-false, or-false}
+use Rattle.scan.specs.Reading.{run}
+use Rattle.scan.proofs.Scan.{run-yes, run-no}
+use Rattle.scan.specs.Every.{Every, none, empty}
+use Rattle.scan.proofs.Every.{run-iff}
 use Rattle.html.specs.Page.{spaced, space, Trimmed, dropped, all-spaces, other-start, other-end, Code}
 use Rattle.html.specs.Reading.{spaceOrLf, margin, codeContent}
 

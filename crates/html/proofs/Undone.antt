@@ -9,9 +9,9 @@ use lib.ListN.{length, getD, drop, drop-of-length-le}
 use lib.Seq.{getD-drop}
 use lib.Dec.{eqb}
 use borrow.Author.Tests.{ne-eqb}
-use Rattle.scan.specs.Test.{by, and-right}
-use Rattle.scan.specs.Byte.{punctuation, escapes, peek-inside}
-use Rattle.scan.specs.Scan.{at-cons}
+use Rattle.scan.proofs.Test.{by, and-right}
+use Rattle.scan.specs.Byte.{punctuation, escapes}
+use Rattle.scan.proofs.Scan.{peek-inside, at-cons}
 use Rattle.html.specs.Reading.{undone, backslash}
 
 pub undone-escape : (b p : ℕ) (s : List ℕ) → escapes (b ∷ p ∷ s) ≡ true → undone (b ∷ p ∷ s) ≡ p ∷ undone s

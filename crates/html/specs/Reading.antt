@@ -7,7 +7,7 @@ use lib.ListN.{length, getD, take, drop}
 use lib.Dec.{eqb, ltb}
 use Rattle.scan.specs.Ascii.{ascii}
 use Rattle.scan.specs.Byte.{escapes}
-use Rattle.scan.specs.Scan.{run}
+use Rattle.scan.specs.Reading.{run}
 use Rattle.html.specs.Page.{escaped, hrefByte, spaced, codeOpen, codeClose}
 
 -- the bytes with their escapes undone

@@ -6,7 +6,7 @@ use mathlib.Core.List.{List, [], _∷_, flatMap}
 use mathlib.Core.Bool.{Bool, true, false, _&&_}
 use lib.Dec.{eqb}
 use Rattle.scan.specs.Ascii.{ascii}
-use Rattle.scan.specs.Scan.{run}
+use Rattle.scan.specs.Reading.{run}
 use Rattle.html.specs.Page.{escaped, stays, hexDigit, hrefByte}
 use Rattle.html.specs.Reading.{undone, margin, textOf, hrefOf, codeSpan, titleAttribute, linkOpen}
 

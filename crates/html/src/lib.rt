@@ -4,7 +4,7 @@ ghost use mathlib.Core.Path.{_≡_};
 ghost use mathlib.Core.List.{[], _∷_, map, flatMap};
 ghost use lib.ListN.{length, drop};
 ghost use Prim.Native.Nat.{_+_, _≤_, _<_};
-ghost use Rattle.scan.specs.Scan.{run, past};
+ghost use Rattle.scan.specs.Reading.{run, past};
 ghost use Rattle.html.specs.Page.{escaped, stays, hexDigit, percent, hrefByte, spaced};
 ghost use Rattle.html.specs.Reading.{backslash, asIs, textOf, hrefOf, spaceOrLf, margin, codeOf, codeSpan, titleAttribute, linkOpen};
 ghost use Rattle.html.specs.Stored.{pageMost, fits, Writes};

@@ -9,8 +9,8 @@ use mathlib.Core.Bool.{Bool, true, false, true≢false}
 use borrow.Author.Tests.{ltb-true, ltb-false, eqb-true, eqb-false}
 use lib.ListN.{length, getD, drop, length-drop, List·getD-eq-default}
 use lib.Dec.{ltb, eqb}
-use Rattle.scan.specs.Test.{by}
-use Rattle.scan.specs.Scan.{Good, scan-holds, at-cons}
+use Rattle.scan.proofs.Test.{by}
+use Rattle.scan.proofs.Scan.{Outcome, scan-holds, at-cons}
 use Rattle.scan.specs.declared.Found.{Found}
 use Rattle.scan.specs.declared.Found.the-variants.{At, Nothing}
 use Rattle.inline.specs.Pieces.{backtick, MaximalRun, FirstRun}
@@ -137,7 +137,7 @@ module _ (p : List ℕ) (from n : ℕ) (some : 0 < n) (starts : tick p from ≡ 
   unfolding countAfter
   uncounted b c e = simp e
 
-  turn : (t : Counted) (b : ℕ) (l : List ℕ) → Reached t (b ∷ l) → Good Reached Told l (runStep n t b (b ∷ l))
+  turn : (t : Counted) (b : ℕ) (l : List ℕ) → Reached t (b ∷ l) → Outcome Reached Told l (runStep n t b (b ∷ l))
   turn t b l (e, s) =
       let (eb, el) = opened b l (t .at) e in
       by (backtick b)

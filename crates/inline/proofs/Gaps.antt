@@ -8,9 +8,9 @@ use borrow.Author.Tests.{ltb-true, ltb-false}
 use lib.ListN.{length, getD, drop, length-append, length-drop}
 use lib.Seq.{drop-at, drop-drop, drop-append-le, drop-append-add, getD-append-seam}
 use lib.Dec.{ltb}
-use Rattle.scan.specs.Test.{by}
-use Rattle.scan.specs.Byte.{blank, peek-inside}
-use Rattle.scan.specs.Scan.{at-cons}
+use Rattle.scan.proofs.Test.{by}
+use Rattle.scan.specs.Byte.{blank}
+use Rattle.scan.proofs.Scan.{peek-inside, at-cons}
 use Rattle.scan.specs.Every.{Every, none, more}
 use Rattle.target.specs.Target.{lineFeeds, Space}
 use Rattle.target.specs.Reading.{spaceRun}

@@ -7,7 +7,7 @@ use mathlib.Core.List.{List, _∷_}
 use borrow.Author.Tests.{eqb-true, eqb-false}
 use lib.ListN.{length, getD, drop, length-drop}
 use lib.Dec.{eqb}
-use Rattle.scan.specs.Test.{by}
+use Rattle.scan.proofs.Test.{by}
 use Rattle.scan.specs.Every.{more}
 use Rattle.target.specs.Target.{DestinationAt, TitleAt}
 use Rattle.target.specs.Reading.{destinationOf, titleOf}

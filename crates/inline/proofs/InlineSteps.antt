@@ -8,9 +8,9 @@ use mathlib.Core.Bool.{true≢false}
 use borrow.Author.Tests.{eq-eqb, ne-eqb}
 use lib.ListN.{getD, drop}
 use lib.Dec.{eqb}
-use Rattle.scan.specs.Test.{by}
+use Rattle.scan.proofs.Test.{by}
 use Rattle.scan.specs.Byte.{blank}
-use Rattle.scan.specs.Scan.{scan}
+use Rattle.scan.specs.Reading.{scan}
 use Rattle.scan.specs.Every.{Every, none, more}
 use Rattle.target.specs.Reading.{rawStep, rawRun, judged, destinationOf, titleOf}
 use Rattle.target.specs.declared.Part.the-variants as part

@@ -6,9 +6,8 @@ use mathlib.Core.Bool.{Bool, true, false, true≢false, not}
 use mathlib.Core.List.{List, _∷_}
 use borrow.Author.Tests.{not-true, not-false}
 use lib.ListN.{length, getD}
-use Rattle.scan.specs.Byte.{peek-inside}
-use Rattle.scan.specs.Scan.{run, run-yes, past, past-on, past-stop}
-use Rattle.scan.specs.Stride.{clear, pastStrides}
+use Rattle.scan.proofs.Scan.{peek-inside, run-yes, past-on, past-stop}
+use Rattle.scan.specs.Reading.{run, past, clear, pastStrides}
 use Rattle.scan.proofs.Strides.{unlike, strides-through}
 use Rattle.inline.specs.Pieces.{quiet}
 

@@ -6,9 +6,9 @@ use mathlib.Core.Option.{Option, Option·some-injective, Option·none-ne-some}
 use mathlib.Core.List.{List, [], _∷_}
 use lib.ListN.{length, drop}
 use lib.Dec.{eqb}
-use Rattle.scan.specs.Scan.{run}
-use Rattle.scan.specs.Every.{run-iff}
-use Rattle.scan.specs.Test.{by}
+use Rattle.scan.specs.Reading.{run}
+use Rattle.scan.proofs.Every.{run-iff}
+use Rattle.scan.proofs.Test.{by}
 use Rattle.marking.specs.Marking.{code, closing, role, Piece, Marking, At, Tiles, Paired, tailPiece, Meets}
 use Rattle.marking.specs.Spans.{Span, codeSpan, linkSpan, SpanOf, CodeOf, LinkOf}
 use Rattle.marking.proofs.Roles.{nothing≢trailing, closing≢trailing}

@@ -10,10 +10,11 @@ use borrow.Author.Tests.{eqb-true}
 use lib.ListN.{length, getD, drop, length-drop}
 use lib.Seq.{getD-drop}
 use lib.Dec.{eqb}
-use Rattle.scan.specs.Test.{by, and-left, neither}
-use Rattle.scan.specs.Byte.{punctuation, escapes, peek-inside}
-use Rattle.scan.specs.Scan.{run}
-use Rattle.scan.specs.Every.{run-iff}
+use Rattle.scan.proofs.Test.{by, and-left, neither}
+use Rattle.scan.specs.Byte.{punctuation, escapes}
+use Rattle.scan.proofs.Scan.{peek-inside}
+use Rattle.scan.specs.Reading.{run}
+use Rattle.scan.proofs.Every.{run-iff}
 use Rattle.scan.specs.declared.Found.{Found}
 use Rattle.scan.specs.declared.Found.the-variants.{At, Nothing}
 use Rattle.marking.specs.Marking.{Piece}

@@ -7,8 +7,10 @@ use mathlib.Core.List.{List, [], _∷_, _++_}
 use mathlib.Core.Bool.{Bool, true, false, true≢false}
 use lib.ListN.{length, getD, drop}
 use lib.Seq.{getD-drop, getD-append-add}
-use Rattle.scan.specs.Scan.{run, run-yes, run-no}
-use Rattle.scan.specs.Every.{Every, none, more, Halts, empty, other, FrontOf, run-iff}
+use Rattle.scan.specs.Reading.{run}
+use Rattle.scan.proofs.Scan.{run-yes, run-no}
+use Rattle.scan.specs.Every.{Every, none, more, Halts, empty, other, FrontOf}
+use Rattle.scan.proofs.Every.{run-iff}
 use Rattle.inline.specs.Pieces.{backtick, Backticks}
 
 module _ (test : ℕ → Bool) (z : test 0 ≡ false) where

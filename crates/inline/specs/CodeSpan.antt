@@ -6,8 +6,8 @@ use mathlib.Core.List.{List}
 use mathlib.Core.Bool.{true, false, cond, not, _&&_}
 use borrow.Author.Tests.{eq-eqb, ne-eqb}
 use lib.Dec.{eqb}
-use Rattle.scan.specs.Test.{by}
-use Rattle.scan.specs.Scan.{Step, stop, next, scan}
+use Rattle.scan.proofs.Test.{by}
+use Rattle.scan.specs.Reading.{Step, stop, next, scan}
 use Rattle.scan.specs.declared.Found.{Found}
 use Rattle.scan.specs.declared.Found.the-variants.{At, Nothing}
 use Rattle.inline.specs.Pieces.{backtick}

@@ -7,9 +7,10 @@ use mathlib.Core.List.{List, [], _∷_}
 use mathlib.Core.Bool.{Bool, true, false, true≢false, cond, not, _&&_}
 use lib.ListN.{length, getD, drop, length-drop}
 use lib.Dec.{eqb}
-use Rattle.scan.specs.Test.{by, and-right}
-use Rattle.scan.specs.Byte.{punctuation, escapes, peek-inside}
-use Rattle.scan.specs.Scan.{Good, scan-holds, at-cons, run, run-yes, run-no}
+use Rattle.scan.proofs.Test.{by, and-right}
+use Rattle.scan.specs.Byte.{punctuation, escapes}
+use Rattle.scan.proofs.Scan.{peek-inside, Outcome, scan-holds, at-cons, run-yes, run-no}
+use Rattle.scan.specs.Reading.{run}
 use Rattle.scan.specs.declared.Found.{Found}
 use Rattle.scan.specs.declared.Found.the-variants.{At, Nothing}
 use Rattle.marking.specs.Marking.{Kind, Piece, escape, code, plain, opens, closes, role, nothing, closing, trailing}
@@ -27,7 +28,7 @@ module _ (n lo hi : ℕ) where
   abbrev Reached : Counted → List ℕ → Type 0
   Reached t l = (lo ≤ t .at) × (t .at + length l ≡ hi)
 
-  turn : (t : Counted) (b : ℕ) (s : List ℕ) → Reached t (b ∷ s) → Good Reached (EndsIn lo hi) s (runStep n t b (b ∷ s))
+  turn : (t : Counted) (b : ℕ) (s : List ℕ) → Reached t (b ∷ s) → Outcome Reached (EndsIn lo hi) s (runStep n t b (b ∷ s))
   unfolding runStep
   turn t b s (h, k) = by (not (backtick b) && eqb (t .count) n) (λ e. rw e (omega arith)) (λ e. rw e (omega arith))
 

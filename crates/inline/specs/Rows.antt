@@ -4,7 +4,7 @@ use mathlib.Core.Path.{_≡_}
 use mathlib.Core.Option.{Option, none, some}
 use mathlib.Core.List.{List, [], _∷_, map}
 use lib.ListN.{length, getD, drop, getElem?}
-use Rattle.scan.specs.Scan.{run}
+use Rattle.scan.specs.Reading.{run}
 use Rattle.marking.specs.Marking.{Marking}
 use Rattle.marking.specs.Spans.{Span, codeSpan, linkSpan, SpansAre}
 use Rattle.marking.specs.Scan.{spans}

@@ -6,7 +6,7 @@ use mathlib.Core.Bool.{true, false, cond}
 use lib.ListN.{getD, drop}
 use lib.Dec.{eqb}
 use Rattle.scan.specs.Byte.{escapes}
-use Rattle.scan.specs.Scan.{run}
+use Rattle.scan.specs.Reading.{run}
 use Rattle.scan.specs.declared.Found.{Found}
 use Rattle.scan.specs.declared.Found.the-variants.{At, Nothing}
 use Rattle.marking.specs.Marking.{Kind, Piece, escape, code, plain, opens, closes}

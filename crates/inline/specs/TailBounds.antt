@@ -8,8 +8,8 @@ use mathlib.Core.Bool.{Bool, true, false}
 use borrow.Author.Tests.{eqb-true}
 use lib.ListN.{length, getD, take, drop}
 use lib.Dec.{eqb}
-use Rattle.scan.specs.Test.{by, and-right}
-use Rattle.scan.specs.Byte.{peek-inside}
+use Rattle.scan.proofs.Test.{by, and-right}
+use Rattle.scan.proofs.Scan.{peek-inside}
 use Rattle.scan.specs.declared.Found.{Found}
 use Rattle.scan.specs.declared.Found.the-variants.{At, Nothing}
 use Rattle.scan.proofs.Closing.{never}

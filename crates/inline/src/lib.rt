@@ -2,7 +2,7 @@
 ghost use mathlib.Core.Path.{_≡_};
 ghost use Prim.Native.Nat.{_+_, _<_, _^_};
 ghost use lib.ListN.{drop};
-ghost use Rattle.scan.specs.Scan.{past};
+ghost use Rattle.scan.specs.Reading.{past};
 ghost use Rattle.inline.specs.Pieces.{backtick, quiet};
 ghost use Rattle.inline.specs.CodeSpan.{countAfter, closingRun};
 ghost use Rattle.inline.specs.Inline.{closedAt, afterDestination, inlineOf};

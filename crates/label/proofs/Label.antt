@@ -10,13 +10,13 @@ use borrow.Author.Tests.{le-leb, leb-true, eq-eqb, eqb-true}
 use lib.ListN.{length, take, drop}
 use lib.Seq.{take-at}
 use lib.Dec.{leb}
-use Rattle.scan.specs.Test.{by, and-left, and-right}
+use Rattle.scan.proofs.Test.{by, and-left, and-right}
 use Rattle.scan.specs.Byte.{blank}
-use Rattle.scan.specs.Closing.{closing}
+use Rattle.scan.specs.Reading.{closing}
 use Rattle.scan.specs.declared.Found.{Found}
 use Rattle.scan.specs.declared.Found.the-variants.{At, Nothing}
 use Rattle.scan.proofs.Closing.{never, at-inj, ClosedAt, closing-iff, closing-inside}
-use Rattle.text.specs.Reading.{characters}
+use Rattle.text.specs.Sequences.{characters}
 use Rattle.label.specs.Label.{labelLimit, Inked, IsLabel, LabelAt}
 use Rattle.label.specs.Reading.{inky, fitsAfter, fits, judged, labelEnd, isAt, unclosed, isLabel}
 

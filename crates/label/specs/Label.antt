@@ -6,7 +6,7 @@ use mathlib.Core.Bool.{false}
 use lib.ListN.{length}
 use Rattle.scan.specs.Byte.{blank}
 use Rattle.scan.specs.Closing.{Units, inner}
-use Rattle.text.specs.Reading.{characters}
+use Rattle.text.specs.Sequences.{characters}
 
 -- the most characters that a label may have
 abbrev pub labelLimit : ℕ

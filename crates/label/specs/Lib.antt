@@ -1,4 +1,3 @@
 pub mod Label
 pub mod Reading
-pub mod Unclosed
 pub mod Samples

@@ -6,9 +6,8 @@ use mathlib.Core.List.{List, [], _∷_}
 use mathlib.Core.Bool.{Bool, true, false, Bool·beq, _&&_}
 use lib.ListN.{replicate}
 use Rattle.scan.specs.Ascii.{ascii}
-use Rattle.scan.specs.Scan.{scan}
-use Rattle.scan.specs.Closing.{closingStep, closing}
-use Rattle.text.specs.Reading.{onesFrom, leadingOnes, sequenceLength, characters}
+use Rattle.scan.specs.Reading.{scan, closingStep, closing}
+use Rattle.text.specs.Sequences.{onesFrom, leadingOnes, sequenceLength, characters}
 use Rattle.label.specs.Reading.{inky, fitsAfter, fits, unclosed, isLabel}
 
 pub record Sample : Type 0 where

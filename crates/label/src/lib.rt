@@ -2,7 +2,7 @@
 ghost use mathlib.Core.Path.{_≡_};
 ghost use Prim.Native.Nat.{_≤_};
 ghost use lib.ListN.{drop};
-ghost use Rattle.text.specs.Reading.{starting};
+ghost use Rattle.text.specs.Sequences.{starting};
 ghost use Rattle.label.specs.Reading.{fits, labelEnd, unclosed, isLabel};
 use scan::Found;
 

@@ -1,9 +1,9 @@
--- The compared form of a label by reading it from the front, and whether two labels match.
+-- The compared form of a label by reading it from the front, whether two labels match, and what comparing them in step asks at a place.
 use Prim.Native.Nat.{ℕ}
-use mathlib.Core.Path.{_≡_}
 use mathlib.Core.List.{List, [], _∷_}
-use mathlib.Core.Bool.{Bool, true, false, cond, _&&_}
-use lib.Dec.{eqb}
+use mathlib.Core.Bool.{Bool, true, false, Bool·beq, not, _&&_, _||_}
+use lib.ListN.{length, getD}
+use lib.Dec.{leb, ltb, eqb}
 use Rattle.scan.specs.Byte.{blank}
 use Rattle.matching.specs.Form.{fold}
 
@@ -31,12 +31,27 @@ equals (x ∷ s) (y ∷ t) = eqb x y && equals s t
 unfoldable pub matches : List ℕ → List ℕ → Bool
 matches a b = equals (compared a) (compared b)
 
--- ---- one byte of the reading
-pub form-blank : (b : ℕ) (s : List ℕ) (tight : Bool) → blank b ≡ true → formOf (b ∷ s) tight ≡ cond tight (formOf s true) (spaced (formOf s true))
-unfolding formOf
-form-blank b s true e = rw (e, formOf)
-form-blank b s false e = rw (e, formOf)
+-- ---- in step
 
-pub form-ink : (b : ℕ) (s : List ℕ) (tight : Bool) → blank b ≡ false → formOf (b ∷ s) tight ≡ fold b ∷ formOf s false
-unfolding formOf
-form-ink b s tight e = rw (e, formOf)
+-- whether the blanks from i to p count as a space: there are some, and not at the start
+abbrev pub gap : ℕ → ℕ → Bool
+gap i p = not (eqb i 0) && not (eqb p i)
+
+-- whether a and b agree in what comes next, where they were read to i and j and the blanks there reach to p and q:
+-- both are over, or neither is, and the gaps and the folded bytes agree
+unfoldable pub agree : List ℕ → List ℕ → ℕ → ℕ → ℕ → ℕ → Bool
+agree a b i j p q =
+    Bool·beq (leb (length a) p) (leb (length b) q)
+    && (leb (length a) p || Bool·beq (gap i p) (gap j q) && eqb (fold (getD a p 0)) (fold (getD b q 0)))
+
+-- a byte that is surely no blank: the place past the blanks is its own
+abbrev pub above : ℕ → Bool
+above x = ltb 32 x
+
+-- whether x and y are no blanks, and unlike when folded
+unfoldable pub unlike : ℕ → ℕ → Bool
+unlike x y = (above x && above y) && not (eqb (fold x) (fold y))
+
+-- whether one and the same byte, no blank, stands in a at i and in b at j
+unfoldable pub same : List ℕ → List ℕ → ℕ → ℕ → Bool
+same a b i j = not (leb (length a) i || leb (length b) j) && (eqb (getD a i 0) (getD b j 0) && above (getD a i 0))

@@ -1,11 +1,9 @@
 // When two link labels are equal, compared in step and with no copy.
 ghost use mathlib.Core.Path.{_≡_};
 ghost use Rattle.scan.specs.Byte.{blank};
-ghost use Rattle.scan.specs.Scan.{past};
+ghost use Rattle.scan.specs.Reading.{past};
 ghost use Rattle.matching.specs.Form.{fold};
-ghost use Rattle.matching.specs.Reading.{matches};
-ghost use Rattle.matching.specs.Turn.{gap, agree};
-ghost use Rattle.matching.specs.Quick.{unlike, same};
+ghost use Rattle.matching.specs.Reading.{matches, gap, agree, unlike, same};
 
 // A to Z as a to z.
 fn folded(b: u8) -> u8

@@ -6,7 +6,7 @@ use mathlib.Core.Option.{some}
 use mathlib.Core.List.{List}
 use lib.ListN.{length, getD, drop, getElem?}
 use lib.Seq.{getD-take, getD-drop}
-use Rattle.scan.specs.Byte.{peek-inside}
+use Rattle.scan.proofs.Scan.{peek-inside}
 use Rattle.marking.proofs.Roles.{opening≢trailing}
 use Rattle.block.specs.Block.{Placed}
 use Rattle.definition.specs.Reading.{paragraphs}

@@ -8,7 +8,7 @@ use mathlib.Core.List.{List, _∷_, Forall₂·nil, Forall₂·cons}
 use borrow.Author.Tests.{ltb-true, ltb-false}
 use lib.ListN.{getElem?}
 use lib.Dec.{ltb}
-use Rattle.scan.specs.Test.{by}
+use Rattle.scan.proofs.Test.{by}
 use Rattle.marking.specs.Marking.{Marking}
 use Rattle.marking.specs.Open.{NeverOver, FirstOver}
 use Rattle.marking.specs.Scan.{over}

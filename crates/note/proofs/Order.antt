@@ -8,7 +8,7 @@ use mathlib.Core.List.{List, [], _∷_, _++_}
 use borrow.Author.Tests.{ltb-true, ltb-false}
 use lib.ListN.{length, getElem?}
 use lib.Dec.{ltb}
-use Rattle.scan.specs.Test.{by}
+use Rattle.scan.proofs.Test.{by}
 use Rattle.marking.specs.Spans.{In}
 use Rattle.marking.proofs.Lists.{at-inside, at-split}
 use Rattle.marking.proofs.Sorted.{in-none, head-first}

@@ -9,7 +9,7 @@ use borrow.Author.Tests.{ltb-true, ltb-false}
 use lib.ListN.{length, getElem?}
 use lib.Dec.{ltb}
 use Rattle.text.specs.Utf8.{GoodNote}
-use Rattle.scan.specs.Test.{by}
+use Rattle.scan.proofs.Test.{by}
 use Rattle.text.specs.declared.Checked.{Checked}
 use Rattle.text.specs.declared.Checked.the-variants as text
 use Rattle.text.specs.Reading.{checkOf}

@@ -9,7 +9,7 @@ use borrow.Author.Tests.{lt-ltb, le-ltb}
 use lib.ListN.{length}
 use lib.Dec.{ltb}
 use Rattle.scan.specs.Byte.{within}
-use Rattle.scan.specs.Test.{by}
+use Rattle.scan.proofs.Test.{by}
 use Rattle.text.specs.declared.Checked.{Checked}
 use Rattle.text.specs.declared.Checked.the-variants as text
 use Rattle.text.specs.Reading.{checkOf}

@@ -6,7 +6,7 @@ use mathlib.Core.Option.{Option, none, some}
 use mathlib.Core.List.{List, [], _∷_, _++_, flatMap}
 use lib.ListN.{length, getD, length-append, length-take, length-drop}
 use lib.Dec.{leb, lit≤}
-use Rattle.scan.specs.Test.{by}
+use Rattle.scan.proofs.Test.{by}
 use Rattle.text.specs.Utf8.{noteLimit}
 use Rattle.block.specs.Block.{Placed}
 use Rattle.block.proofs.Places as block

@@ -9,7 +9,7 @@ use mathlib.Core.List.{List}
 use mathlib.Core.Bool.{true, false, true≢false, not}
 use borrow.Author.Tests.{eq-eqb, eqb-true, not-true}
 use lib.ListN.{length, getElem?}
-use Rattle.scan.specs.Test.{and-left, and-right}
+use Rattle.scan.proofs.Test.{and-left, and-right}
 use Rattle.marking.specs.Marking.{Kind, escape, code, plain, opens, closes, tail, Role, opening, closing, trailing, role, Piece, Marking, At, Plays, Paired}
 use Rattle.marking.specs.Spans.{Span, codeSpan, linkSpan, SpanOf, CodeOf, LinkOf, In}
 use Rattle.marking.proofs.Tiles.{tiles-order}

@@ -9,7 +9,7 @@ use mathlib.Core.Bool.{true, false}
 use lib.ListN.{length, getD, take, drop, drop-of-length-le}
 use lib.Seq.{drop-drop, getD-drop}
 use Rattle.scan.specs.Byte.{escapes}
-use Rattle.scan.specs.Scan.{at-cons}
+use Rattle.scan.proofs.Scan.{at-cons}
 use Rattle.row.specs.First.{bytesOf}
 use Rattle.inline.specs.Rows.{rowEnd}
 use Rattle.html.specs.Page.{escaped, linkClose}

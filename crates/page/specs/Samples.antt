@@ -4,10 +4,8 @@ use Prim.Native.String.{String}
 use mathlib.Core.Path.{_≡_, refl}
 use mathlib.Core.List.{List, [], _∷_, map, flatMap}
 use Rattle.scan.specs.Ascii.{ascii}
-use Rattle.scan.specs.Scan.{scan as scanBytes, run, past}
-use Rattle.scan.specs.Leap.{leap}
-use Rattle.scan.specs.Closing.{closingStep, closing}
-use Rattle.text.specs.Reading.{onesFrom, leadingOnes, sequenceLength, characters}
+use Rattle.scan.specs.Reading.{scan as scanBytes, run, past, leap, closingStep, closing}
+use Rattle.text.specs.Sequences.{onesFrom, leadingOnes, sequenceLength, characters}
 use Rattle.label.specs.Reading.{inky, fitsAfter, fits, labelEnd, unclosed, isLabel}
 use Rattle.target.specs.Reading.{spaceFrom, depthAfter, rawStep, rawRun, judged, destinationOf, closer, titleOf}
 use Rattle.matching.specs.Form.{fold}

@@ -8,7 +8,7 @@ use mathlib.Core.Option.{none}
 use mathlib.Core.List.{List, [], _∷_, _++_, map, map-append, reverse}
 use lib.ListN.{length, getD, take, length-append, length-map}
 use Rattle.note.specs.Note.{depthLimit}
-use Rattle.scan.specs.Test.{by}
+use Rattle.scan.proofs.Test.{by}
 use Rattle.marking.specs.Marking.{role, Piece}
 use Rattle.marking.specs.Spans as marked
 use Rattle.marking.specs.Grammar.{Grammar}

@@ -6,8 +6,9 @@ use mathlib.Core.Path.{_≡_, refl}
 use mathlib.Core.Bool.{true}
 use mathlib.Core.List.{List}
 use lib.ListN.{length, getD, drop, length-drop}
-use Rattle.scan.specs.Test.{by}
-use Rattle.scan.specs.Scan.{at-cons, run, run-yes, run-no, past}
+use Rattle.scan.proofs.Test.{by}
+use Rattle.scan.proofs.Scan.{at-cons, run-yes, run-no}
+use Rattle.scan.specs.Reading.{run, past}
 use Rattle.marking.specs.Marking.{plain}
 use Rattle.row.specs.declared.Definition.{Definition}
 use Rattle.inline.specs.Pieces.{quiet}

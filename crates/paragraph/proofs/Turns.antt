@@ -12,9 +12,9 @@ use lib.Dec.{eqb, ltb}
 use lib.ListN.{length, getD, take, drop, set, length-set, length-take, length-drop, length-reverse}
 use lib.Seq.{take-suc, take-suc-set, getD-set-same, getD-set-other}
 use Rattle.note.specs.Note.{depthLimit}
-use Rattle.scan.specs.Test.{by, and-left, and-right}
+use Rattle.scan.proofs.Test.{by, and-left, and-right}
 use Rattle.scan.specs.Byte.{escapes}
-use Rattle.scan.specs.Scan.{run}
+use Rattle.scan.specs.Reading.{run}
 use Rattle.scan.specs.declared.Found.{Found as Place}
 use Rattle.scan.specs.declared.Found.the-variants as place
 use Rattle.marking.specs.Marking.{Role, nothing, opening, closing, role, Piece, opens}

@@ -8,12 +8,12 @@ use mathlib.Core.Logic.{_↔_}
 use borrow.Author.Tests.{ltb-true, ltb-false}
 use lib.Dec.{ltb}
 use lib.ListN.{getD}
-use Rattle.scan.specs.Test.{by}
+use Rattle.scan.proofs.Test.{by}
 use Rattle.scan.specs.declared.Found.{Found}
 use Rattle.scan.specs.declared.Found.the-variants.{At, Nothing}
 use Rattle.matching.specs.Form.{Equal}
 use Rattle.matching.specs.Reading.{matches}
-use Rattle.matching.specs.Equality.{matches-equal}
+use Rattle.matching.proofs.Equality.{matches-equal}
 use Rattle.row.specs.First.{FirstEqual, NoneEqual}
 use Rattle.row.specs.Reading.{matchFrom, firstMatch}
 use Rattle.row.proofs.Turn.{match-hit, match-miss}

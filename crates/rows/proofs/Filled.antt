@@ -8,7 +8,7 @@ use borrow.Author.Tests.{ltb-true, ltb-false}
 use lib.Dec.{ltb}
 use lib.ListN.{length, take, drop, length-append, length-take, length-drop}
 use lib.Seq.{take-all, take-nil, take-at, take-append-le, drop-append-add, drop-drop}
-use Rattle.scan.specs.Test.{by}
+use Rattle.scan.proofs.Test.{by}
 use Rattle.rows.specs.Rows.{rows, wholeRows, filled, stored}
 use Rattle.rows.proofs.Put.{no-row, row-put}
 

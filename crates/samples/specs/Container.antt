@@ -7,8 +7,8 @@ use borrow.Author.Tests.{eqb-true, le-leb, lt-leb, lt-ltb, le-ltb}
 use lib.ListN.{length, take, drop, getD}
 use lib.Dec.{eqb, leb, ltb}
 use Rattle.scan.specs.Byte.{within}
-use Rattle.scan.specs.Test.{and-left, and-false}
-use Rattle.scan.specs.Scan.{Step, stop, next, scan}
+use Rattle.scan.proofs.Test.{and-left, and-false}
+use Rattle.scan.specs.Reading.{Step, stop, next, scan}
 use Rattle.samples.specs.declared.container.Number.{Number}
 use Rattle.samples.specs.declared.container.Number.the-variants as number
 use Rattle.samples.specs.declared.container.Header.{Header}

@@ -4,17 +4,33 @@ use native.Mathlib.Nat.{add-zero}
 use native.Mathlib.Omega.{arith}
 use mathlib.Core.Path.{_≡_, refl, sym, ap, subst, _∙_}
 use mathlib.Core.List.{List, [], _∷_, _++_}
-use mathlib.Core.Bool.{Bool, true, false, true≢false, not, _&&_, _||_}
+use mathlib.Core.Bool.{Bool, true, false, true≢false, cond, not, _&&_, _||_}
 use mathlib.Core.Logic.{_↔_, _⊎_, inl, inr, ⊎-elim}
 use borrow.Author.Tests.{eq-eqb, eqb-true, not-true}
 use lib.ListN.{length, drop, length-drop, length-append}
 use lib.Dec.{eqb}
-use Rattle.scan.specs.Test.{by, and-left, and-right}
-use Rattle.scan.specs.Byte.{punctuation, escapes, bare}
-use Rattle.scan.specs.Scan.{scan, scan-cons, Good, scan-holds}
-use Rattle.scan.specs.Closing.{Units, none, escape, byte, inner, Closed, Reached, closingStep, closingFrom, closing, closes, barred, passed}
+use Rattle.scan.specs.Byte.{punctuation, escapes}
+use Rattle.scan.specs.Closing.{Units, none, escape, byte, inner, Closed}
+use Rattle.scan.specs.Reading.{stop, next, scan, bare, Reached, closingStep, closingFrom, closing}
 use Rattle.scan.specs.declared.Found.{Found}
 use Rattle.scan.specs.declared.Found.the-variants.{At, Nothing}
+use Rattle.scan.proofs.Test.{by, and-left, and-right}
+use Rattle.scan.proofs.Scan.{scan-cons, Outcome, scan-holds}
+
+-- ---- the ways through a turn: each premise is a fact that the code has there
+module _ (close bar other : ℕ) (t : Reached) (b : ℕ) (s : List ℕ) where
+  pub closes : bare close b (t .inside) ≡ true → closingStep close bar other t b s ≡ stop (At (t .at))
+  unfolding closingStep
+  closes h = simp h
+
+  pub bars : bare close b (t .inside) ≡ false → (not (t .inside) && (eqb b bar || eqb b other)) ≡ true → closingStep close bar other t b s ≡ stop Nothing
+  unfolding closingStep
+  bars h k = simp (h, k)
+
+  pub passed : {k : Bool} → bare close b (t .inside) ≡ false → (not (t .inside) && (eqb b bar || eqb b other)) ≡ false → k ≡ escapes s
+      → closingStep close bar other t b s ≡ next (record { at = t .at + 1; inside = not (t .inside) && k })
+  unfolding closingStep
+  passed h o e = simp (h, o, e)
 
 -- a text at the front of s, which starts at place `at`, whose closing delimiter stands at place e
 pub record ClosedAt (close bar other : ℕ) (s : List ℕ) (at e : ℕ) : Type 0 where
@@ -43,7 +59,7 @@ Below n Nothing = Unit {0}
 
 module _ (close bar other : ℕ) where
   keeps : (n : ℕ) (t : Reached) (b : ℕ) (s : List ℕ) → t .at + length (b ∷ s) ≡ n
-      → Good (λ (t : Reached) (l : List ℕ). t .at + length l ≡ n) (Below n) s (closingStep close bar other t b (b ∷ s))
+      → Outcome (λ (t : Reached) (l : List ℕ). t .at + length l ≡ n) (Below n) s (closingStep close bar other t b (b ∷ s))
   unfolding closingStep
   keeps n t b s i =
       by (bare close b (t .inside)) (λ e. rw e (omega arith))
@@ -63,8 +79,8 @@ module _ (close bar other : ℕ) (free : inner close bar other 92 ≡ true) wher
   not-close : (b : ℕ) → inner close bar other b ≡ true → eqb b close ≡ false
   not-close b e = not-true _ (and-left _ (not (eqb b bar || eqb b other)) e)
 
-  not-barred : (b : ℕ) → inner close bar other b ≡ true → (eqb b bar || eqb b other) ≡ false
-  not-barred b e = not-true _ (and-right (not (eqb b close)) _ e)
+  not-bars : (b : ℕ) → inner close bar other b ≡ true → (eqb b bar || eqb b other) ≡ false
+  not-bars b e = not-true _ (and-right (not (eqb b close)) _ e)
 
   -- a turn over a byte that is no bare delimiter
   pass : (b : ℕ) (s : List ℕ) (at : ℕ) (inside k : Bool) → bare close b inside ≡ false → (not inside && (eqb b bar || eqb b other)) ≡ false
@@ -77,9 +93,9 @@ module _ (close bar other : ℕ) (free : inner close bar other 92 ≡ true) wher
       → closingFrom close bar other (l ++ close ∷ more) (record { at = at; inside = false }) ≡ At (at + length l)
   find more none at = scan-cons _ _ close more _ (closes close bar other _ _ _ (eq-eqb close close refl)) ∙ ap At (sym (add-zero at))
   find more (escape {p} {l} e t) at =
-      pass 92 _ at false true (not-close 92 free) (not-barred 92 free) e ∙ pass p _ (at + 1) true false refl refl refl ∙ find more t (at + 1 + 1) ∙ ap At (omega arith)
+      pass 92 _ at false true (not-close 92 free) (not-bars 92 free) e ∙ pass p _ (at + 1) true false refl refl refl ∙ find more t (at + 1 + 1) ∙ ap At (omega arith)
   find more (byte {b} {l} a e t) at =
-      pass b _ at false false (not-close b a) (not-barred b a) (escapes-front b close l more ∙ e) ∙ find more t (at + 1) ∙ ap At (omega arith)
+      pass b _ at false false (not-close b a) (not-bars b a) (escapes-front b close l more ∙ e) ∙ find more t (at + 1) ∙ ap At (omega arith)
 
   -- ---- sound: what is found is the end of such a text
   Turn : (b : ℕ) (s : List ℕ) (at : ℕ) (inside : Bool) (e : ℕ) → Type 0
@@ -94,7 +110,7 @@ module _ (close bar other : ℕ) (free : inner close bar other 92 ≡ true) wher
       by (bare close b inside)
       (λ c. inl (c, at-inj (sym (scan-cons _ _ b s _ (closes close bar other _ _ _ c)) ∙ r)))
       (λ c. by (not inside && (eqb b bar || eqb b other))
-      (λ o. absurd (never (sym (scan-cons _ _ b s _ (barred close bar other _ _ _ c o)) ∙ r)))
+      (λ o. absurd (never (sym (scan-cons _ _ b s _ (bars close bar other _ _ _ c o)) ∙ r)))
       (λ o. inr (c, o, sym (pass b s at inside _ c o refl) ∙ r)))
 
   abbrev Sound : List ℕ → Type 0

@@ -1,2 +1,6 @@
+pub mod Test
+pub mod Scan
+pub mod Every
+pub mod Leap
 pub mod Closing
 pub mod Strides

@@ -9,9 +9,9 @@ use borrow.Author.Tests.{le-leb, lt-leb, ne-eqb, leb-true, leb-false, not-true, 
 use lib.ListN.{length, getD, drop, length-drop}
 use lib.Seq.{drop-drop}
 use lib.Dec.{eqb}
-use Rattle.scan.specs.Test.{by, leb-same}
-use Rattle.scan.specs.Scan.{run, run-yes, run-no, run-fits, at-cons}
-use Rattle.scan.specs.Stride.{runs, pastStrides}
+use Rattle.scan.proofs.Test.{by, leb-same}
+use Rattle.scan.specs.Reading.{run, runs, pastStrides}
+use Rattle.scan.proofs.Scan.{run-yes, run-no, run-fits, at-cons}
 
 -- a byte that passes is none that does not
 pub unlike : (test : ℕ → Bool) (b m : ℕ) → test b ≡ true → test m ≡ false → eqb b m ≡ false

@@ -1,9 +1,7 @@
-pub mod Test
 pub mod Byte
-pub mod Scan
+pub mod Member
 pub mod Every
-pub mod Leap
-pub mod Stride
 pub mod Closing
+pub mod Reading
 pub mod Ascii
 pub mod Samples

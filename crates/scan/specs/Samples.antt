@@ -6,9 +6,7 @@ use mathlib.Core.List.{List, [], _∷_}
 use mathlib.Core.Bool.{Bool, true, false, _&&_}
 use lib.Dec.{eqb}
 use Rattle.scan.specs.Ascii.{ascii}
-use Rattle.scan.specs.Scan.{scan, run}
-use Rattle.scan.specs.Stride.{clear, pastStrides}
-use Rattle.scan.specs.Closing.{closingStep, closing}
+use Rattle.scan.specs.Reading.{scan, run, clear, pastStrides, closingStep, closing}
 use Rattle.scan.specs.declared.Found.{Found}
 use Rattle.scan.specs.declared.Found.the-variants.{At, Nothing}
 

@@ -3,8 +3,7 @@ ghost use mathlib.Core.Path.{_≡_};
 ghost use Prim.Native.Nat.{_+_, _≤_};
 ghost use lib.ListN.{length, getD, drop};
 ghost use Rattle.scan.specs.Byte.{punctuation, blank, escapes};
-ghost use Rattle.scan.specs.Stride.{clear, runs, pastStrides};
-ghost use Rattle.scan.specs.Closing.{closing};
+ghost use Rattle.scan.specs.Reading.{clear, runs, pastStrides, closing};
 
 // A place, or none.
 pub enum Found {

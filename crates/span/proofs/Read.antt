@@ -5,7 +5,7 @@ use native.Mathlib.Omega.{arith}
 use mathlib.Core.Path.{_≡_, refl, sym, ap, _∙_}
 use mathlib.Core.List.{List, [], _∷_}
 use lib.ListN.{length, getD, take, drop}
-use Rattle.scan.specs.Scan.{at-cons}
+use Rattle.scan.proofs.Scan.{at-cons}
 use Rattle.span.specs.Row.{width, numbers, wholeRows, rowAt, spanAt}
 
 -- n numbers from place a + j on, one after the other

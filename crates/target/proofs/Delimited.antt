@@ -7,7 +7,8 @@ use mathlib.Core.Bool.{true}
 use mathlib.Core.Logic.{_↔_}
 use lib.ListN.{length, getD, take, drop, length-append, length-drop}
 use lib.Seq.{take-at, drop-at, drop-drop}
-use Rattle.scan.specs.Closing.{inner, Closed, closing}
+use Rattle.scan.specs.Closing.{inner, Closed}
+use Rattle.scan.specs.Reading.{closing}
 use Rattle.scan.specs.declared.Found.{Found}
 use Rattle.scan.specs.declared.Found.the-variants as found
 use Rattle.scan.proofs.Closing.{closing-iff}

@@ -8,7 +8,7 @@ use mathlib.Core.Logic.{_↔_}
 use borrow.Author.Tests.{ne-eqb, eqb-true, eqb-false, not-true, not-false, ltb-false}
 use lib.ListN.{length, getD, drop}
 use lib.Dec.{eqb}
-use Rattle.scan.specs.Test.{by, neither}
+use Rattle.scan.proofs.Test.{by, neither}
 use Rattle.scan.specs.Byte.{punctuation, blank}
 use Rattle.scan.specs.Every.{Every}
 use Rattle.scan.specs.Every as every

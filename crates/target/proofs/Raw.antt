@@ -9,11 +9,12 @@ use mathlib.Core.Bool.{Bool, true, false, true≢false, not, _&&_}
 use borrow.Author.Tests.{ne-eqb, eqb-true, eqb-false, ltb-true, lt-leb, not-true}
 use lib.ListN.{length}
 use lib.Dec.{ltb, eqb}
-use Rattle.scan.specs.Test.{by, and-false, neither}
+use Rattle.scan.proofs.Test.{by, and-false, neither}
 use Rattle.scan.specs.Byte.{punctuation, escapes}
 use Rattle.scan.specs.Every.{Every}
 use Rattle.scan.specs.Every as every
-use Rattle.scan.specs.Scan.{scan, scan-cons}
+use Rattle.scan.specs.Reading.{scan}
+use Rattle.scan.proofs.Scan.{scan-cons}
 use Rattle.scan.proofs.Closing.{slash}
 use Rattle.target.specs.Target.{control, Longest}
 use Rattle.target.specs.Reading.{Running, depthAfter, halts, rawFrom, rawRun}

@@ -9,7 +9,7 @@ use borrow.Author.Tests.{not-false}
 use lib.ListN.{length, getD, take, length-append}
 use lib.Seq.{take-at}
 use lib.Dec.{eqb}
-use Rattle.scan.specs.Test.{by, neither}
+use Rattle.scan.proofs.Test.{by, neither}
 use Rattle.scan.specs.Byte.{blank}
 use Rattle.scan.specs.Every.{Every, none, more}
 use Rattle.target.specs.Target.{lineFeeds, Space}

@@ -8,7 +8,7 @@ use mathlib.Core.Logic.{_↔_}
 use borrow.Author.Tests.{eqb-true}
 use lib.ListN.{length, getD, drop}
 use lib.Dec.{eqb}
-use Rattle.scan.specs.Test.{by}
+use Rattle.scan.proofs.Test.{by}
 use Rattle.scan.specs.Byte.{blank}
 use Rattle.scan.specs.Closing.{inner}
 use Rattle.target.specs.Target.{Between, Title, double, single, parentheses, TitleAt}

@@ -6,9 +6,10 @@ use mathlib.Core.List.{List}
 use mathlib.Core.Bool.{Bool, true, false, not, _&&_, _||_}
 use lib.ListN.{length, getD, drop, drop-of-length-le}
 use lib.Dec.{eqb}
-use Rattle.scan.specs.Byte.{blank, escapes, bare}
-use Rattle.scan.specs.Test.{by}
-use Rattle.scan.specs.Scan.{stop, next, at-cons}
+use Rattle.scan.specs.Byte.{blank, escapes}
+use Rattle.scan.specs.Reading.{bare, stop, next}
+use Rattle.scan.proofs.Test.{by}
+use Rattle.scan.proofs.Scan.{at-cons}
 use Rattle.target.specs.Reading.{spaceFrom, Running, ended, depthAfter, halts, rawStep}
 
 -- ---- the longest run

@@ -4,9 +4,8 @@ use mathlib.Core.List.{List, [], _∷_}
 use mathlib.Core.Bool.{Bool, true, false, cond, not, _&&_, _||_}
 use lib.ListN.{getD, drop}
 use lib.Dec.{eqb}
-use Rattle.scan.specs.Byte.{blank, escapes, bare}
-use Rattle.scan.specs.Scan.{Step, stop, next, scan}
-use Rattle.scan.specs.Closing.{closing}
+use Rattle.scan.specs.Byte.{blank, escapes}
+use Rattle.scan.specs.Reading.{bare, Step, stop, next, scan, closing}
 use Rattle.scan.specs.declared.Found.{Found}
 use Rattle.scan.specs.declared.Found.the-variants as found
 use Rattle.target.specs.Target.{control}

@@ -4,8 +4,7 @@ use Prim.Native.String.{String}
 use mathlib.Core.Path.{_≡_, refl}
 use mathlib.Core.List.{[]}
 use Rattle.scan.specs.Ascii.{ascii}
-use Rattle.scan.specs.Scan.{scan}
-use Rattle.scan.specs.Closing.{closingStep, closing}
+use Rattle.scan.specs.Reading.{scan, closingStep, closing}
 use Rattle.target.specs.Target.{Balanced, none, escape, byte, group, ClosesOnlyOpened, balanced, opened}
 use Rattle.target.specs.Reading.{spaceFrom, spaceRun, depthAfter, rawStep, rawRun, judged, destinationOf, closer, titleOf}
 use Rattle.target.specs.declared.Part.{Part}

@@ -7,8 +7,8 @@ use mathlib.Core.Bool.{true}
 use borrow.Author.Tests.{eq-eqb, ne-eqb, eqb-true, eqb-false, leb-true}
 use lib.Dec.{leb, eqb}
 use lib.ListN.{length, drop}
-use Rattle.scan.specs.Test.{by, and-left}
-use Rattle.scan.specs.Stride.{pastStrides}
+use Rattle.scan.proofs.Test.{by, and-left}
+use Rattle.scan.specs.Reading.{pastStrides}
 use Rattle.scan.specs.declared.Found.{Found}
 use Rattle.scan.proofs.Strides.{unlike, strides-through}
 use Rattle.text.specs.Reading.{goodLength, goodAscii, pastAscii, firstBad}

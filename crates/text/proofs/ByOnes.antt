@@ -9,11 +9,11 @@ use borrow.Author.Tests.{eqb-true, le-ltb, le-leb, ltb-true, ltb-false}
 use lib.Dec.{eqb, leb, ltb}
 use lib.ListN.{length, getD, take, drop, drop-of-length-le}
 use lib.Seq.{take-nil, getD-drop, drop-drop}
-use Rattle.scan.specs.Test.{by, and-left, and-right}
-use Rattle.scan.specs.Scan.{at-cons}
+use Rattle.scan.proofs.Test.{by, and-left, and-right}
+use Rattle.scan.proofs.Scan.{at-cons}
 use Rattle.text.specs.Utf8.{Range, _‥_, table}
-use Rattle.text.specs.Reading.{onesFrom, leadingOnes, sequenceLength, holds, opens, rowFor, starts, characterLength}
-use Rattle.text.specs.Lead.{lead, least, most, second, continuation}
+use Rattle.text.specs.Sequences.{onesFrom, leadingOnes, sequenceLength}
+use Rattle.text.specs.Reading.{holds, opens, rowFor, starts, characterLength, lead, least, most, second, continuation}
 use Rattle.text.proofs.Below.{at}
 use Rattle.text.proofs.Rows.{row-here, starts-cons, starts-found}
 

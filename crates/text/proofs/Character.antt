@@ -9,7 +9,7 @@ use borrow.Author.Tests.{le-leb, leb-true, eqb-true}
 use lib.Dec.{eqb, leb}
 use lib.ListN.{length, getD, take, drop, take-append-drop}
 use lib.Seq.{length-take-le}
-use Rattle.scan.specs.Test.{by, and-left, and-right}
+use Rattle.scan.proofs.Test.{by, and-left, and-right}
 use Rattle.text.specs.Utf8.{Range, table, Fits, Character, GoodCharacter, Begins}
 use Rattle.text.specs.Reading.{opens, rowFor, starts, characterLength, goodLength, barred}
 use Rattle.text.proofs.Below.{every, every-at}

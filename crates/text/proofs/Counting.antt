@@ -1,14 +1,15 @@
 -- A text of n characters has n bytes that start a sequence: the first of each character, and no other.
 use Prim.Native.Nat.{ℕ, suc, _+_, _-_, _≤_}
+use native.Mathlib.Nat.{zero-add, add-assoc}
 use native.Mathlib.Omega.{arith}
 use mathlib.Core.Path.{_≡_, refl, _∙_}
 use mathlib.Core.Bool.{Bool, true, false, false≢true, _&&_}
-use mathlib.Core.List.{List, [], _∷_}
+use mathlib.Core.List.{List, [], _∷_, _++_}
 use borrow.Author.Tests.{eqb-true}
 use lib.Dec.{eqb}
-use Rattle.scan.specs.Test.{and-left, and-right}
+use Rattle.scan.proofs.Test.{and-left, and-right}
 use Rattle.text.specs.Utf8.{Range, table, Fits, Character, Run, none, more}
-use Rattle.text.specs.Reading.{onesFrom, leadingOnes, sequenceLength, starting, characters, characters-append}
+use Rattle.text.specs.Sequences.{onesFrom, leadingOnes, sequenceLength, starting, characters}
 use Rattle.text.proofs.Below.{all, at, every, every-at}
 
 -- ---- one test over the ranges of the table: each byte of a first range starts a sequence, and no byte of a later range does
@@ -49,6 +50,11 @@ pub one-character : {c : List ℕ} → Character c → characters c ≡ 1
 one-character {c} w = one (w .row) c (every-at once table table-once (w .listed)) (w .fits)
 
 -- ---- the theorem
+characters-append : (l m : List ℕ) → characters (l ++ m) ≡ characters l + characters m
+unfolding characters
+characters-append [] m = rw zero-add
+characters-append (b ∷ l) m = rw (characters-append l m, add-assoc)
+
 pub counts-characters : {s : List ℕ} {n : ℕ} → Run Character s n → characters s ≡ n
 unfolding characters
 counts-characters none = refl

@@ -5,7 +5,7 @@ use mathlib.Core.Bool.{true, false, false≢true, _&&_}
 use mathlib.Core.List.{List, [], _∷_}
 use lib.Dec.{leb}
 use lib.ListN.{length, getD, drop}
-use Rattle.scan.specs.Test.{by, and-right}
+use Rattle.scan.proofs.Test.{by, and-right}
 use Rattle.text.specs.Utf8.{Range, table}
 use Rattle.text.specs.Reading.{holds, opens, rowFor, starts, lengthBy, characterLength, goodLength, barred}
 

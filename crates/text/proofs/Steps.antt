@@ -7,7 +7,7 @@ use mathlib.Core.List.{List, [], _∷_}
 use lib.ListN.{length, drop, length-drop, drop-of-length-le}
 use lib.Seq.{drop-drop}
 use borrow.Author.Tests.{le-ltb}
-use Rattle.scan.specs.Scan.{at-cons}
+use Rattle.scan.proofs.Scan.{at-cons}
 use Rattle.scan.specs.declared.Found.{Found}
 use Rattle.scan.specs.declared.Found.the-variants.{At, Nothing}
 use Rattle.text.specs.Reading.{goodLength, firstBadPast, firstBad, checkedBy, checkOf}

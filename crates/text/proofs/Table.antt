@@ -9,7 +9,7 @@ use mathlib.Core.List.{List, [], _∷_, _++_, List·Memᴰ, List·Memᴰ·head, 
 use borrow.Author.Tests.{ltb-true, leb-true, le-leb, lt-leb}
 use lib.Dec.{leb, ltb}
 use lib.ListN.{length, take}
-use Rattle.scan.specs.Test.{by, and-left, and-right, and-false}
+use Rattle.scan.proofs.Test.{by, and-left, and-right, and-false}
 use Rattle.text.specs.Utf8.{Range, table, Fits}
 use Rattle.text.specs.Reading.{holds, opens, rowFor, starts}
 use Rattle.text.proofs.Rows.{row-here, row-later}

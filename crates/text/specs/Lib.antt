@@ -1,4 +1,4 @@
 pub mod Utf8
+pub mod Sequences
 pub mod Reading
-pub mod Lead
 pub mod Samples

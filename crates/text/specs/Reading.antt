@@ -1,61 +1,16 @@
--- Reading UTF-8 from the front: how long a character is, where the first bad one stands, and how many there are.
-use Prim.Native.Nat.{ℕ, zero, suc, _+_, _/_, _%_, _^_}
-use native.Mathlib.Nat.{zero-add, add-assoc}
-use mathlib.Core.Path.{_≡_, refl}
-use mathlib.Core.List.{List, [], _∷_, _++_}
+-- Reading UTF-8 from the front: how long a character is, and where the first bad one stands.
+use Prim.Native.Nat.{ℕ, zero, suc, _+_, _%_}
+use mathlib.Core.List.{List, [], _∷_}
 use mathlib.Core.Bool.{Bool, true, false, cond, _&&_, _||_}
 use lib.Dec.{eqb, ltb}
 use lib.ListN.{length, getD}
 use Rattle.scan.specs.Byte.{within}
-use Rattle.scan.specs.Stride.{clear, pastStrides}
+use Rattle.scan.specs.Reading.{clear, pastStrides}
 use Rattle.scan.specs.declared.Found.{Found}
 use Rattle.scan.specs.declared.Found.the-variants.{At, Nothing}
 use Rattle.text.specs.declared.Checked.{Checked}
 use Rattle.text.specs.declared.Checked.the-variants.{Good, Long, Bad}
 use Rattle.text.specs.Utf8.{Range, table, noteLimit}
-
--- ---- the length that a first byte announces
-
--- bit k of b, where bit 0 is the lowest
-abbrev pub bit : ℕ → ℕ → Bool
-bit k b = eqb (b / 2 ^ k % 2) 1
-
--- how many one bits stand before the first zero bit, from bit k - 1 of b downwards
-unfoldable pub onesFrom : ℕ → ℕ → ℕ
-onesFrom zero b = 0
-onesFrom (suc k) b = elim (bit k b) [ true ↦ suc (onesFrom k b) | false ↦ 0 ]
-
--- "the count of leading one bits" of a byte
-unfoldable pub leadingOnes : ℕ → ℕ
-leadingOnes b = onesFrom 8 b
-
--- "where none means one byte; one or more than four is ill-formed": 0 says that no sequence starts so
-abbrev pub lengthByOnes : ℕ → ℕ
-lengthByOnes n = cond (eqb n 0) 1 (cond (eqb n 1 || ltb 4 n) 0 n)
-
--- "A sequence length is the count of leading one bits of its first byte"
-unfoldable pub sequenceLength : ℕ → ℕ
-sequenceLength b = lengthByOnes (leadingOnes b)
-
--- ---- counting
-
--- 1 where b starts a sequence, 0 where it does not
-abbrev pub starting : ℕ → ℕ
-starting b = cond (eqb (sequenceLength b) 0) 0 1
-
--- how many bytes of l start a sequence
-unfoldable pub characters : List ℕ → ℕ
-characters [] = 0
-characters (b ∷ l) = starting b + characters l
-
-pub characters-cons : (b : ℕ) (l : List ℕ) → characters (b ∷ l) ≡ starting b + characters l
-unfolding characters
-characters-cons b l = refl
-
-pub characters-append : (l m : List ℕ) → characters (l ++ m) ≡ characters l + characters m
-unfolding characters
-characters-append [] m = rw zero-add
-characters-append (b ∷ l) m = rw (characters-append l m, add-assoc)
 
 -- ---- the character at the front
 
@@ -85,6 +40,29 @@ lengthBy row s = cond (starts row s) (length row) 0
 -- the length of the character that s starts with, 0 where none does
 unfoldable pub characterLength : List ℕ → ℕ
 characterLength s = lengthBy (rowFor table (getD s 0 0)) s
+
+-- ---- the same by what the first byte of a longer character asks of the bytes after it
+
+-- b starts a character of two to four bytes
+abbrev pub lead : ℕ → Bool
+lead b = within 0xC2 0xF4 b
+
+-- the least and the largest second byte after b
+abbrev pub least : ℕ → ℕ
+least b = cond (eqb b 0xE0) 0xA0 (cond (eqb b 0xF0) 0x90 0x80)
+
+abbrev pub most : ℕ → ℕ
+most b = cond (eqb b 0xED) 0x9F (cond (eqb b 0xF4) 0x8F 0xBF)
+
+-- x may be the second byte after b
+abbrev pub second : ℕ → ℕ → Bool
+second b x = within (least b) (most b) x
+
+-- x may be a third or fourth byte
+abbrev pub continuation : ℕ → Bool
+continuation x = within 0x80 0xBF x
+
+-- ---- the good character at the front
 
 -- "byte 0 or 13"
 abbrev pub barred : ℕ → Bool

@@ -6,7 +6,8 @@ use lib.ListN.{replicate}
 use Rattle.scan.specs.declared.Found.the-variants.{At, Nothing}
 use Rattle.text.specs.declared.Checked.the-variants.{Long, Bad}
 use Rattle.text.specs.Utf8.{table}
-use Rattle.text.specs.Reading.{onesFrom, leadingOnes, sequenceLength, characters, rowFor, starts, characterLength, goodLength, firstBadPast, firstBad, checkOf}
+use Rattle.text.specs.Sequences.{onesFrom, leadingOnes, sequenceLength, characters}
+use Rattle.text.specs.Reading.{rowFor, starts, characterLength, goodLength, firstBadPast, firstBad, checkOf}
 
 -- a text, and the place where no good character starts
 bad : List (List ℕ × ℕ)

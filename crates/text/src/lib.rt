@@ -1,8 +1,8 @@
 // Well-formed UTF-8, the note's length limit, and counting characters.
 ghost use mathlib.Core.Path.{_≡_};
 ghost use lib.ListN.{drop};
-ghost use Rattle.text.specs.Reading.{leadingOnes, sequenceLength, characterLength, goodLength, pastAscii, firstBad, checkOf};
-ghost use Rattle.text.specs.Lead.{lead, least, most, second, continuation};
+ghost use Rattle.text.specs.Sequences.{leadingOnes, sequenceLength};
+ghost use Rattle.text.specs.Reading.{characterLength, goodLength, pastAscii, firstBad, checkOf, lead, least, most, second, continuation};
 use scan::Found;
 
 // The most bytes that a note may have.

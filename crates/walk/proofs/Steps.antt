@@ -8,8 +8,8 @@ use borrow.Author.Tests.{not-true, not-false, le-leb, lt-leb}
 use lib.Dec.{eqb}
 use lib.ListN.{length, getD, take, drop, length-drop, length-take}
 use lib.Seq.{length-take-le, take-take, take-add, drop-at}
-use Rattle.scan.specs.Test.{by}
-use Rattle.scan.specs.Leap.{leap-end}
+use Rattle.scan.proofs.Test.{by}
+use Rattle.scan.proofs.Leap.{leap-end}
 use Rattle.block.specs.Block.{Placed}
 use Rattle.block.specs.Reading.{blankLine, lineLength, blockLength, partLength, blockHere}
 use Rattle.block.proofs.Places as places

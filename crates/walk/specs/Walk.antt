@@ -3,7 +3,7 @@ use Prim.Native.Nat.{ℕ, _-_, _≤_, _<_}
 use mathlib.Core.Path.{_≡_}
 use mathlib.Core.List.{List, [], _∷_, _++_}
 use lib.ListN.{length, take, drop}
-use Rattle.scan.specs.Leap.{leap}
+use Rattle.scan.specs.Reading.{leap}
 use Rattle.block.specs.Block.{Placed}
 use Rattle.block.specs.Reading.{partLength, blockHere}
 use Rattle.row.specs.declared.Definition.{Definition}

@@ -9,7 +9,7 @@ use mathlib.Core.Bool.{Bool, true, false, not, _&&_}
 use borrow.Author.Tests.{eqb-true, not-true, leb-true, leb-false, lt-leb}
 use lib.ListN.{getD, getElem?}
 use lib.Dec.{leb}
-use Rattle.scan.specs.Test.{by, and-left, and-right}
+use Rattle.scan.proofs.Test.{by, and-left, and-right}
 use Rattle.marking.proofs.Lists.{at-inside}
 use Rattle.note.specs.Reading.{spanRows}
 use Rattle.note.proofs.Placing.{at-getD}

@@ -8,8 +8,8 @@ use mathlib.Core.Bool.{false}
 use lib.ListN.{length, getD, take, drop}
 use lib.Seq.{length-take-le, getD-take}
 use Rattle.scan.specs.Byte.{escapes}
-use Rattle.scan.specs.Scan.{past}
-use Rattle.scan.specs.Test.{by}
+use Rattle.scan.specs.Reading.{past}
+use Rattle.scan.proofs.Test.{by}
 use Rattle.walk.proofs.Steps.{cut}
 use Rattle.note.specs.Reading.{spanRows}
 use Rattle.html.specs.Page.{escaped}

@@ -4,7 +4,7 @@ use mathlib.Core.Path.{_≡_, refl}
 use mathlib.Core.List.{List, [], _∷_, _++_, flatMap}
 use mathlib.Core.Bool.{true, false}
 use Rattle.scan.specs.Ascii.{ascii}
-use Rattle.scan.specs.Scan.{run}
+use Rattle.scan.specs.Reading.{run}
 use Rattle.html.specs.Page.{escaped, stays, hexDigit, hrefByte}
 use Rattle.html.specs.Reading.{undone, margin, titleAttribute, linkOpen}
 use Rattle.page.specs.Reading.{Written}

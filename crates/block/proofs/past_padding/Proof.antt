@@ -4,7 +4,8 @@ use borrow.Author.Needs.{needs}
 use mathlib.Core.Path.{_≡_}
 use Prim.Native.Nat.{_-_}
 use lib.ListN.{length}
-use Rattle.scan.specs.Scan.{past, past-on, past-stop, past-end}
+use Rattle.scan.specs.Reading.{past}
+use Rattle.scan.proofs.Scan.{past-on, past-stop, past-end}
 use Rattle.block.specs.Line.{padding}
 use Rattle.block.proofs.past_padding.Statement.{statement}
 use Rattle.block.proofs.past_padding.Tie as tie

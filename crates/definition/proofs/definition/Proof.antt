@@ -6,8 +6,8 @@ use mathlib.Core.Path.{_≡_}
 use mathlib.Core.List.{List}
 use Prim.Native.Nat.{ℕ, _+_, _-_, _≤_, _<_}
 use lib.ListN.{getD, drop}
-use Rattle.scan.specs.Scan.{past}
-use Rattle.scan.specs.Byte.{peek-inside}
+use Rattle.scan.specs.Reading.{past}
+use Rattle.scan.proofs.Scan.{peek-inside}
 use Rattle.scan.specs.declared.Found.{Found}
 use Rattle.scan.specs.declared.Found.the-variants as found
 use Rattle.label.specs.Reading.{labelEnd}

@@ -5,7 +5,7 @@ use mathlib.Core.Path.{_≡_}
 use mathlib.Core.List.{List}
 use Prim.Native.Nat.{ℕ, _+_, _≤_, _<_}
 use lib.ListN.{length, getD}
-use Rattle.scan.specs.Scan.{past}
+use Rattle.scan.specs.Reading.{past}
 use Rattle.scan.specs.declared.Found.the-variants.{At, Nothing}
 use Rattle.block.specs.Line.{padding}
 use Rattle.definition.specs.Reading.{lineAfter}

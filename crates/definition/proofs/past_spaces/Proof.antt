@@ -5,7 +5,8 @@ use mathlib.Core.Path.{_≡_, refl}
 use mathlib.Core.List.{List}
 use Prim.Native.Nat.{ℕ, _+_, _-_, _<_}
 use lib.ListN.{length, getD}
-use Rattle.scan.specs.Scan.{past, past-on, past-stop, past-end}
+use Rattle.scan.specs.Reading.{past}
+use Rattle.scan.proofs.Scan.{past-on, past-stop, past-end}
 use Rattle.definition.specs.Definition.{space}
 use Rattle.definition.proofs.past_spaces.Statement.{statement}
 use Rattle.definition.proofs.past_spaces.Tie as tie

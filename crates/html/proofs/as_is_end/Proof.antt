@@ -4,7 +4,8 @@ use mathlib.Core.Path.{_≡_}
 use lib.ListN.{length}
 use borrow.Author.Needs.{needs}
 use borrow.Author.Tests.{not-true, not-false}
-use Rattle.scan.specs.Scan.{past, past-on, past-stop, past-end}
+use Rattle.scan.specs.Reading.{past}
+use Rattle.scan.proofs.Scan.{past-on, past-stop, past-end}
 use Rattle.html.specs.Reading.{asIs}
 use Rattle.html.proofs.AsIs.{as-is-strides}
 use Rattle.html.proofs.as_is_end.Statement.{statement}

@@ -5,7 +5,8 @@ use mathlib.Core.Path.{_≡_}
 use lib.ListN.{length}
 use borrow.Author.Needs.{needs}
 use borrow.Author.Tests.{not-true, not-false}
-use Rattle.scan.specs.Scan.{run, past, past-on, past-stop, past-end}
+use Rattle.scan.specs.Reading.{run, past}
+use Rattle.scan.proofs.Scan.{past-on, past-stop, past-end}
 use Rattle.html.specs.Reading.{spaceOrLf}
 use Rattle.html.proofs.leading_spaces.Statement.{statement}
 use Rattle.html.proofs.leading_spaces.Tie as tie

@@ -5,7 +5,8 @@ use Prim.Native.Nat.{ℕ, _+_, _-_, _<_}
 use mathlib.Core.Path.{_≡_, refl}
 use mathlib.Core.List.{List}
 use lib.ListN.{length, getD}
-use Rattle.scan.specs.Scan.{past, past-on, past-stop, past-end}
+use Rattle.scan.specs.Reading.{past}
+use Rattle.scan.proofs.Scan.{past-on, past-stop, past-end}
 use Rattle.inline.specs.Pieces.{backtick}
 use Rattle.inline.proofs.backticks_end.Statement.{statement}
 use Rattle.inline.proofs.backticks_end.Tie as tie

@@ -6,7 +6,7 @@ use Prim.Native.Nat.{ℕ, _+_, _<_}
 use mathlib.Core.Path.{_≡_}
 use mathlib.Core.List.{List}
 use lib.ListN.{length, getD}
-use Rattle.scan.specs.Byte.{peek-inside}
+use Rattle.scan.proofs.Scan.{peek-inside}
 use Rattle.row.specs.declared.Range.{Range}
 use Rattle.inline.specs.Inline.{parts, closedAt}
 use Rattle.inline.specs.declared.InlineTail.the-variants.{Nothing}

@@ -3,7 +3,7 @@ use borrow.Author.Needs.{needs}
 use mathlib.Core.Path.{_≡_}
 use Prim.Native.Nat.{_-_, _≤_}
 use lib.ListN.{length, drop}
-use Rattle.scan.specs.Scan.{stops, goes, ends}
+use Rattle.scan.proofs.Scan.{stops, goes, ends}
 use Rattle.inline.specs.CodeSpan.{runFrom, closingRun, closes, passed, ends-full, ends-other, count-bounded}
 use Rattle.inline.proofs.closing_run.Statement.{statement}
 use Rattle.inline.proofs.closing_run.Tie as tie

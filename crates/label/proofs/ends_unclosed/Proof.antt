@@ -4,8 +4,8 @@ use mathlib.Core.Path.{ap, _∙_}
 use Prim.Native.Nat.{_-_, _≤_}
 use lib.ListN.{length}
 use Rattle.scan.specs.Byte.{punctuation}
-use Rattle.scan.specs.Closing.{closing}
-use Rattle.label.specs.Unclosed.{Goes, refused, went, ended}
+use Rattle.scan.specs.Reading.{closing}
+use Rattle.label.proofs.Unclosed.{Goes, refused, went, ended}
 use Rattle.label.proofs.ends_unclosed.Statement.{statement}
 use Rattle.label.proofs.ends_unclosed.Tie as tie
 

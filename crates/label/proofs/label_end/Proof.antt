@@ -4,10 +4,10 @@ use mathlib.Core.List.{List}
 use Prim.Native.Nat.{ℕ, _≤_, _<_}
 use native.Mathlib.Nat.{le-of-lt}
 use lib.ListN.{length, drop}
-use Rattle.scan.specs.Closing.{closing}
+use Rattle.scan.specs.Reading.{closing}
 use Rattle.scan.specs.declared.Found.the-variants.{At}
 use Rattle.scan.proofs.Closing.{closing-inside}
-use Rattle.label.specs.Reading.{end-fits, end-unfit, end-missing}
+use Rattle.label.proofs.Fits.{end-fits, end-unfit, end-missing}
 use borrow.Author.Needs.{needs}
 use Rattle.label.proofs.label_end.Statement.{statement}
 use Rattle.label.proofs.label_end.Tie as tie

@@ -3,7 +3,8 @@ use borrow.Author.Needs.{needs}
 use mathlib.Core.Path.{_≡_}
 use Prim.Native.Nat.{_-_, _≤_}
 use lib.ListN.{length, drop}
-use Rattle.label.specs.Reading.{fitsAfter, fits, fits-on, fits-done}
+use Rattle.label.specs.Reading.{fitsAfter, fits}
+use Rattle.label.proofs.Fits.{fits-on, fits-done}
 use Rattle.label.proofs.label_fits.Statement.{statement}
 use Rattle.label.proofs.label_fits.Tie as tie
 

@@ -2,7 +2,7 @@
 use borrow.Author.Needs.{needs}
 use mathlib.Core.Path.{sym, ap, _∙_}
 use Rattle.matching.specs.Form.{fold}
-use Rattle.matching.specs.Quick.{no-agree, ends-agree}
+use Rattle.matching.proofs.Quick.{no-agree, ends-agree}
 use Rattle.matching.proofs.agree_at.Statement.{statement}
 use Rattle.matching.proofs.agree_at.Tie as tie
 

@@ -1,6 +1,6 @@
 -- The answer is the formula `unlike` itself, over what the calls gave.
 use borrow.Author.Needs.{needs}
-use Rattle.matching.specs.Quick.{unlike}
+use Rattle.matching.specs.Reading.{unlike}
 use Rattle.matching.proofs.are_unlike.Statement.{statement}
 use Rattle.matching.proofs.are_unlike.Tie as tie
 

@@ -2,7 +2,7 @@
 use native.Mathlib.Omega.{arith}
 use borrow.Author.Tests.{leb-true}
 use lib.Dec.{leb}
-use Rattle.scan.specs.Test.{and-right}
+use Rattle.scan.proofs.Test.{and-right}
 use Rattle.matching.specs.Form.{fold}
 use Rattle.matching.proofs.folded.Statement.{statement}
 use Rattle.matching.proofs.folded.Tie as tie

@@ -5,7 +5,8 @@ use mathlib.Core.Path.{_≡_}
 use Prim.Native.Nat.{_-_}
 use lib.ListN.{length}
 use Rattle.scan.specs.Byte.{blank}
-use Rattle.scan.specs.Scan.{past, past-on, past-stop, past-end}
+use Rattle.scan.specs.Reading.{past}
+use Rattle.scan.proofs.Scan.{past-on, past-stop, past-end}
 use Rattle.matching.proofs.past_blanks.Statement.{statement}
 use Rattle.matching.proofs.past_blanks.Tie as tie
 

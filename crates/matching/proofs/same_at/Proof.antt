@@ -2,8 +2,8 @@
 use borrow.Author.Tests.{leb-false}
 use lib.ListN.{length}
 use lib.Dec.{leb}
-use Rattle.scan.specs.Test.{neither}
-use Rattle.matching.specs.Quick.{same}
+use Rattle.scan.proofs.Test.{neither}
+use Rattle.matching.specs.Reading.{same}
 use Rattle.matching.proofs.same_at.Statement.{statement}
 use Rattle.matching.proofs.same_at.Tie as tie
 

@@ -6,7 +6,7 @@ use mathlib.Core.Path.{_≡_}
 use Prim.Native.Nat.{_-_}
 use lib.ListN.{length}
 use Rattle.matching.specs.Reading.{equals, matches}
-use Rattle.matching.specs.Turn.{formFrom, past-from, begins, differ, both-over, agreed, both-inside}
+use Rattle.matching.proofs.Turn.{formFrom, past-from, begins, differ, both-over, agreed, both-inside}
 use Rattle.matching.proofs.same_label.Statement.{statement}
 use Rattle.matching.proofs.same_label.Tie as tie
 

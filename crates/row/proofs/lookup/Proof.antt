@@ -6,8 +6,8 @@ use native.Mathlib.Omega.{arith}
 use mathlib.Core.Path.{_≡_, refl, sym}
 use lib.ListN.{length, length-take, length-drop}
 use Rattle.matching.specs.Reading.{equals, matches}
-use Rattle.matching.specs.Turn as turn
-use Rattle.matching.specs.Quick as quick
+use Rattle.matching.proofs.Turn as turn
+use Rattle.matching.proofs.Quick as quick
 use Rattle.row.specs.Reading.{rowOf}
 use Rattle.row.proofs.Turn.{rowFrom, begins, part-within, hit, miss, none}
 use Rattle.row.proofs.lookup.Statement.{statement}

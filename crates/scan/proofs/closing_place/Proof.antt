@@ -3,12 +3,13 @@ use borrow.Author.Needs.{needs}
 use mathlib.Core.Path.{_≡_}
 use Prim.Native.Nat.{_-_}
 use lib.ListN.{length, drop}
-use Rattle.scan.specs.Scan.{stops, goes, ends}
-use Rattle.scan.specs.Closing.{closingFrom, closing, closes, barred, passed}
+use Rattle.scan.proofs.Scan.{stops, goes, ends}
+use Rattle.scan.specs.Reading.{closingFrom, closing}
+use Rattle.scan.proofs.Closing.{closes, bars, passed}
 use Rattle.scan.proofs.closing_place.Statement.{statement}
 use Rattle.scan.proofs.closing_place.Tie as tie
 
-ruleset turns = (stops, goes, ends, closes, barred, passed, needs)
+ruleset turns = (stops, goes, ends, closes, bars, passed, needs)
 
 abbrev Inv-loop : tie.InvT-loop
 Inv-loop s at close bar other i₀ inside₀ i inside =

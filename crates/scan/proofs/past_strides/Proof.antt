@@ -3,7 +3,7 @@ use borrow.Author.Needs.{needs}
 use mathlib.Core.Path.{_≡_}
 use Prim.Native.Nat.{_-_}
 use lib.ListN.{length}
-use Rattle.scan.specs.Stride.{clear, pastStrides}
+use Rattle.scan.specs.Reading.{clear, pastStrides}
 use Rattle.scan.proofs.Strides.{strides-on, strides-stop, strides-end}
 use Rattle.scan.proofs.past_strides.Statement.{statement}
 use Rattle.scan.proofs.past_strides.Tie as tie

@@ -1,7 +1,7 @@
 -- Four parts of four bytes each.
 use borrow.Author.Needs.{needs}
 use native.Mathlib.Omega.{arith}
-use Rattle.scan.specs.Stride.{clear}
+use Rattle.scan.specs.Reading.{clear}
 use Rattle.scan.proofs.Strides.{runs-four, runs-short}
 use Rattle.scan.proofs.sixteen_clear.Statement.{statement}
 use Rattle.scan.proofs.sixteen_clear.Tie as tie

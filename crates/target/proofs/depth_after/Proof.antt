@@ -6,8 +6,8 @@ use Prim.Native.Nat.{ℕ, _<_}
 use mathlib.Core.Path.{_≡_}
 use mathlib.Core.Bool.{Bool, true, false, _&&_}
 use lib.Dec.{eqb}
-use Rattle.scan.specs.Test.{neither}
-use Rattle.scan.specs.Byte.{bare}
+use Rattle.scan.proofs.Test.{neither}
+use Rattle.scan.specs.Reading.{bare}
 use Rattle.target.specs.Target.{control}
 use Rattle.target.specs.Reading.{halts, depthAfter}
 use Rattle.target.proofs.depth_after.Statement.{statement}

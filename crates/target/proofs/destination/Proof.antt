@@ -8,7 +8,7 @@ use mathlib.Core.Path.{_≡_}
 use mathlib.Core.List.{List}
 use lib.ListN.{getD, drop}
 use lib.Seq.{getD-drop, drop-drop}
-use Rattle.scan.specs.Byte.{peek-inside}
+use Rattle.scan.proofs.Scan.{peek-inside}
 use Rattle.target.specs.Reading.{rawRun, judged, enclosedOf, destinationOf}
 use Rattle.target.specs.declared.Run.{Run}
 use Rattle.target.specs.declared.Part.{Part}

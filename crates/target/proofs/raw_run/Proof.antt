@@ -3,7 +3,7 @@ use borrow.Author.Needs.{needs}
 use mathlib.Core.Path.{_≡_}
 use Prim.Native.Nat.{_-_, _≤_}
 use lib.ListN.{length, drop}
-use Rattle.scan.specs.Scan.{stops, goes, ends}
+use Rattle.scan.proofs.Scan.{stops, goes, ends}
 use Rattle.target.specs.Reading.{rawFrom, rawRun}
 use Rattle.target.proofs.Turns.{halted, passed, deeper}
 use Rattle.target.proofs.raw_run.Statement.{statement}

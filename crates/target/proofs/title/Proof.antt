@@ -8,7 +8,7 @@ use mathlib.Core.List.{List}
 use mathlib.Core.Bool.{true, false, true≢false}
 use lib.ListN.{length, getD, drop}
 use lib.Seq.{getD-drop, drop-drop}
-use Rattle.scan.specs.Byte.{peek-inside}
+use Rattle.scan.proofs.Scan.{peek-inside}
 use Rattle.target.specs.Reading.{quotes, closer, enclosedOf, titleOf}
 use Rattle.target.specs.declared.Part.{Part}
 use Rattle.target.specs.declared.Part.the-variants.{Nothing}

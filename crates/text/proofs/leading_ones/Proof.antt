@@ -6,7 +6,7 @@ use mathlib.Core.Bool.{Bool}
 use Prim.Native.Nat.{ℕ, _-_}
 use lib.Dec.{eqb}
 use lib.Count.{leadingZeros}
-use Rattle.text.specs.Reading.{onesFrom, leadingOnes}
+use Rattle.text.specs.Sequences.{onesFrom, leadingOnes}
 use Rattle.text.proofs.Below.{at}
 use Rattle.text.proofs.leading_ones.Statement.{statement}
 use Rattle.text.proofs.leading_ones.Tie as tie

@@ -2,7 +2,7 @@
 use mathlib.Core.Path.{sym}
 use borrow.Author.Needs.{needs}
 use borrow.Author.Tests.{eq-eqb, ne-eqb}
-use Rattle.text.specs.Reading.{sequenceLength}
+use Rattle.text.specs.Sequences.{sequenceLength}
 use Rattle.text.proofs.sequence_length.Statement.{statement}
 use Rattle.text.proofs.sequence_length.Tie as tie
 

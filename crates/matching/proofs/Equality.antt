@@ -6,11 +6,12 @@ use mathlib.Core.List.{List, [], _∷_, _++_, map, append-nil}
 use mathlib.Core.Bool.{Bool, true, false, true≢false}
 use borrow.Author.Tests.{eq-eqb, eqb-true}
 use lib.Dec.{eqb}
-use Rattle.scan.specs.Test.{by, and-left, and-right}
+use Rattle.scan.proofs.Test.{by, and-left, and-right}
 use Rattle.scan.specs.Byte.{blank}
 use Rattle.scan.specs.Every.{none, more}
 use Rattle.matching.specs.Form.{fold, Blanks, Word, last, byte, Over, Words, rest, word, joined, Compared, Equal}
-use Rattle.matching.specs.Reading.{spaced, formOf, form-blank, form-ink, compared, equals, matches}
+use Rattle.matching.specs.Reading.{spaced, formOf, compared, equals, matches}
+use Rattle.matching.proofs.Forms.{form-blank, form-ink}
 
 -- ---- the reading of blanks, of a word, and of what follows a word
 form-blanks : {g : List ℕ} → Blanks g → (l : List ℕ) → formOf (g ++ l) true ≡ formOf l true

@@ -11,22 +11,13 @@ use borrow.Author.Tests.{eq-eqb, ne-eqb, eqb-true, eqb-false, leb-true, leb-fals
 use lib.ListN.{length, getD, drop, length-drop}
 use lib.Seq.{getD-drop, drop-drop}
 use lib.Dec.{leb, eqb, eqb·suc-zero}
-use Rattle.scan.specs.Test.{by, and-left}
+use Rattle.scan.proofs.Test.{by, and-left, eqb-same}
 use Rattle.scan.specs.Byte.{within, blank}
-use Rattle.scan.specs.Scan.{run, run-yes, run-no, past}
+use Rattle.scan.specs.Reading.{run, past}
+use Rattle.scan.proofs.Scan.{run-yes, run-no}
 use Rattle.matching.specs.Form.{fold}
-use Rattle.matching.specs.Reading.{spaced, formOf, form-blank, form-ink, compared, equals, matches}
-
--- whether the blanks from i to p count as a space: there are some, and not at the start
-abbrev pub gap : ℕ → ℕ → Bool
-gap i p = not (eqb i 0) && not (eqb p i)
-
--- whether a and b agree in what comes next, where they were read to i and j and the blanks there reach to p and q:
--- both are over, or neither is, and the gaps and the folded bytes agree
-unfoldable pub agree : List ℕ → List ℕ → ℕ → ℕ → ℕ → ℕ → Bool
-agree a b i j p q =
-    Bool·beq (leb (length a) p) (leb (length b) q)
-    && (leb (length a) p || Bool·beq (gap i p) (gap j q) && eqb (fold (getD a p 0)) (fold (getD b q 0)))
+use Rattle.matching.specs.Reading.{spaced, formOf, compared, equals, matches, gap, agree}
+use Rattle.matching.proofs.Forms.{form-blank, form-ink}
 
 -- the compared form of what is left of s from i on
 abbrev pub formFrom : List ℕ → ℕ → List ℕ
@@ -79,10 +70,6 @@ first-ink (b ∷ s) h =
     (λ e. rw (run-no blank b s e) e)
 
 -- ---- the same of what is left from i on, where the blanks there reach to p
-eqb-same : (a b c d : ℕ) → (a ≡ b → c ≡ d) → (c ≡ d → a ≡ b) → eqb a b ≡ eqb c d
-eqb-same a b c d f g =
-    by (eqb a b) (λ e. e ∙ sym (eq-eqb c d (f (eqb-true a b e)))) (λ e. e ∙ sym (ne-eqb c d (λ q. eqb-false a b e (g q))))
-
 module _ (s : List ℕ) (i p : ℕ) (at : p ≡ past blank s i) where
   reach : p ≡ i + run blank (drop i s)
   unfolding past

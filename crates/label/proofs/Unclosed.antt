@@ -9,10 +9,11 @@ use borrow.Author.Tests.{eq-eqb, ne-eqb}
 use lib.ListN.{length, getD, drop, length-drop, drop-of-length-le}
 use lib.Seq.{getD-drop}
 use lib.Dec.{eqb, eqb·zero-suc}
-use Rattle.scan.specs.Test.{by, eqb-same}
-use Rattle.scan.specs.Byte.{punctuation, escapes, bare}
-use Rattle.scan.specs.Scan.{scan, scan-cons, at-cons}
-use Rattle.scan.specs.Closing.{closingStep, closingFrom, closing, closes, barred, passed}
+use Rattle.scan.proofs.Test.{by, eqb-same}
+use Rattle.scan.specs.Byte.{punctuation, escapes}
+use Rattle.scan.specs.Reading.{bare, scan, closingStep, closingFrom, closing}
+use Rattle.scan.proofs.Scan.{scan-cons, at-cons}
+use Rattle.scan.proofs.Closing.{closes, bars, passed}
 use Rattle.scan.specs.declared.Found.{Found}
 use Rattle.scan.specs.declared.Found.the-variants.{At, Nothing}
 use Rattle.label.specs.Reading.{isAt, unclosed}
@@ -58,7 +59,7 @@ module _ (l : List ℕ) (i : ℕ) (inside : Bool) (inv : Goes l i inside) where
     refused r =
         by (bare 93 here inside)
         (λ c. sym (ne-eqb i (length l) (λ e. omega arith)) ∙ answers (At i) (sym (scan-cons _ _ here rest _ (closes 93 91 93 _ _ _ c)) ∙ open-here))
-        (λ c. answers Nothing (sym (scan-cons _ _ here rest _ (barred 93 91 93 _ _ _ c r)) ∙ open-here))
+        (λ c. answers Nothing (sym (scan-cons _ _ here rest _ (bars 93 91 93 _ _ _ c r)) ∙ open-here))
 
     -- the byte after this one, or the `]`
     next-byte : {p : Bool} → p ≡ punctuation (getD l (i + 1) 0) → (not inside && escapes (here ∷ rest)) ≡ ((not inside && eqb here 92) && (eqb (i + 1) (length l) || p))

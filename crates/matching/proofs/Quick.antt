@@ -7,24 +7,13 @@ use mathlib.Core.Bool.{Bool, true, false, Bool·beq, not, _&&_, _||_}
 use borrow.Author.Tests.{eq-eqb, ne-eqb, eqb-true, eqb-false, leb-true, leb-false, ltb-true, not-true}
 use lib.ListN.{length, getD, List·getD-eq-default}
 use lib.Dec.{leb, ltb, eqb}
-use Rattle.scan.specs.Test.{by, and-left, and-right, neither}
-use Rattle.scan.specs.Byte.{blank, peek-inside}
-use Rattle.scan.specs.Scan.{past, past-stop}
+use Rattle.scan.proofs.Test.{by, and-left, and-right, neither}
+use Rattle.scan.specs.Byte.{blank}
+use Rattle.scan.proofs.Scan.{peek-inside, past-stop}
+use Rattle.scan.specs.Reading.{past}
 use Rattle.matching.specs.Form.{fold}
-use Rattle.matching.specs.Reading.{equals, matches}
-use Rattle.matching.specs.Turn.{gap, agree, formFrom, begins, differ, agreed}
-
--- a byte that is surely no blank: the place past the blanks is its own
-abbrev above : ℕ → Bool
-above x = ltb 32 x
-
--- whether x and y are no blanks, and unlike when folded
-unfoldable pub unlike : ℕ → ℕ → Bool
-unlike x y = (above x && above y) && not (eqb (fold x) (fold y))
-
--- whether one and the same byte, no blank, stands in a at i and in b at j
-unfoldable pub same : List ℕ → List ℕ → ℕ → ℕ → Bool
-same a b i j = not (leb (length a) i || leb (length b) j) && (eqb (getD a i 0) (getD b j 0) && above (getD a i 0))
+use Rattle.matching.specs.Reading.{equals, matches, above, unlike, same, gap, agree}
+use Rattle.matching.proofs.Turn.{formFrom, begins, differ, agreed}
 
 -- ---- bytes that are unlike when folded: the labels do not agree there, wherever they end and whatever blanks stand before
 pub no-agree : (a b : List ℕ) (i j p q : ℕ) → (fold (getD a p 0) ≡ fold (getD b q 0) → ⊥) → agree a b i j p q ≡ false

@@ -1,0 +1,4 @@
+pub mod Forms
+pub mod Turn
+pub mod Quick
+pub mod Equality
