@@ -5,9 +5,10 @@ of what each case is.
 EXAMPLES is the file of source examples (host/tests/data/examples.json), CONTAINER is crates/samples/stdin. What the
 program must write for it, crates/samples/stdout, is made from the container by the second reader (host, `cases`).
 
-A case is a header line of four numbers of six digits (numbers lent to the definition table, numbers lent to the
-span table, bytes lent to the page, bytes of the note), the note, and a line end. Nothing here reads a note: where a
-case is to lend enough, it lends more rows than the note has brackets and backticks for, and a page some times as long."""
+A case is a header line of five numbers of six digits (numbers lent to the definition table, numbers lent to the span
+table, bytes lent to the page, bytes of the note, bytes of the label), the note and a line end, the label and a line end.
+Nothing here reads a note: where a case is to lend enough, it lends more rows than the note has brackets and backticks for,
+and a page some times as long; where it names no label, it asks for what stands from the first `[` to the next `]`."""
 import json
 import random
 import sys
@@ -17,17 +18,23 @@ LONGEST = 32768
 cases = []
 
 
-def case(name, note, definitions=None, spans=None, page=None):
-    """A case of the note with so many numbers lent to each table and so many bytes to the page; None lends enough, and
-    more: part of a row, bytes past the HTML."""
-    note = note if isinstance(note, bytes) else note.encode()
+def encoded(text):
+    return text if isinstance(text, bytes) else text.encode()
+
+
+def case(name, note, definitions=None, spans=None, page=None, label=None):
+    """A case of the note with so many numbers lent to each table and so many bytes to the page, and a label to ask for;
+    None lends enough, and more: part of a row, bytes past the HTML."""
+    note = encoded(note)
+    if label is None:
+        label = note.partition(b'[')[2].partition(b']')[0]
     if definitions is None:
         definitions = DEFINITION * note.count(b']:') + 4
     if spans is None:
         spans = SPAN * (note.count(b']') + note.count(b'`') // 2) + 3
     if page is None:
         page = min(6 * len(note) + 60, len(note) + 400)
-    cases.append((name, definitions, spans, page, note))
+    cases.append((name, definitions, spans, page, note, encoded(label)))
 
 
 def bench():
@@ -179,6 +186,27 @@ def pages():
     case('a paragraph after a definition, rows of two paragraphs', '[a]: /b "t"\nx [a]\n\n`c` [d](e)\n\n[a][] f', 6, 50, 400)
 
 
+def enquiries():
+    note = '[max]: /a\\*b "June"\n[MAX]: /c\n\n [x\ny]: <>\n\n[p]\n[q]: /r\n'
+    for label in ('max', 'Max', '\tMAX\n', ' x  y\n\n', 'x\\ y', 'p', 'q', '/c', '', ' ', '\n\t', '[', ']', 'a]', 'a[b', '[max]', 'max\\', 'max\\]', 'max\r', '\0max', b'max\xc3', b'\xed\xa0\x80'):
+        case(f'enquiry for {label!r}', note, label=label)
+    for count in (999, 1000):
+        case(f'enquiry for {count} characters, most of them spaces', '[a b]: /u', label='a' + ' ' * (count - 2) + 'b')
+        case(f'enquiry for {count} characters of two bytes', f"[{'é' * 999}]: /u", label='é' * count)
+    for defined, label in (('foo\\!', 'foo!'), ('foo!', 'foo\\!'), ('foo\\!', 'FOO\\!'), ('É', 'é'), ('É', 'É'), ('a', 'ab'), ('ab', 'a'), ('a b', 'ab'), ('@', '`'), ('\\[', '\\{')):
+        case(f'enquiry for {label!r}, {defined!r} is defined', f'[{defined}]: /u', label=label)
+    for target in ('<>', '<a b>', '<a\\>b>', '/a\\)b', '/ä(b(c))', 'a"b"', '\n/u\n"t"', '/u\n"t" x', '<a>b'):
+        case(f'enquiry for the destination of {target!r}', f'[a]: {target}', label='a')
+    case('enquiry, the second of two blocks', 'text\n\n[b]: /1\n\n[a]: /2', label='A')
+    case('enquiry, defined within a paragraph', 'text\n[a]: /1\n\n[b]: /2', label='a')
+    case('enquiry, an empty note', '', label='a')
+    case('enquiry, a note too deep to be marked', '[' * 65 + '\n\n[a]: /u', 6, 0, 0, 'a')
+    case('enquiry, a bad byte in the note and in the label', b'[a]: /u \r', label=b'\0')
+    case('enquiry, a note too long and no label', b'\r' * (LONGEST + 1), 0, 0, 0, '')
+    case('enquiry, at the end of 32,768 bytes', 'a ' * 16378 + '\n\n' + '[b]: /cdef', 6, 0, label='B')
+    case('enquiry, the last of 2,000 definitions', ''.join(f'[l{k}]: /{k}\n' for k in range(2000)), 6, 0, 0, 'L1999')
+
+
 def chance():
     """Short notes by chance, the same in every run."""
     chosen = random.Random(1)
@@ -194,14 +222,15 @@ def main():
     source, container, listing = sys.argv[1:]
     bench()
     examples(source)
-    for group in (lengths, labels, brackets, definitions, tails, bad, tables, pages, chance):
+    for group in (lengths, labels, brackets, definitions, tails, bad, tables, pages, enquiries, chance):
         group()
     with open(container, 'wb') as out:
-        for _, lent_definitions, lent_spans, lent_page, note in cases:
-            out.write(b'%06d %06d %06d %06d\n' % (lent_definitions, lent_spans, lent_page, len(note)) + note + b'\n')
+        for _, lent_definitions, lent_spans, lent_page, note, label in cases:
+            sizes = lent_definitions, lent_spans, lent_page, len(note), len(label)
+            out.write(b'%06d %06d %06d %06d %06d\n' % sizes + note + b'\n' + label + b'\n')
     with open(listing, 'w', encoding='utf-8') as out:
-        for index, (name, lent_definitions, lent_spans, lent_page, note) in enumerate(cases, 1):
-            out.write(f'{index}\t{lent_definitions}\t{lent_spans}\t{lent_page}\t{len(note)}\t{name}\n')
+        for index, (name, lent_definitions, lent_spans, lent_page, note, label) in enumerate(cases, 1):
+            out.write(f'{index}\t{lent_definitions}\t{lent_spans}\t{lent_page}\t{len(note)}\t{len(label)}\t{name}\n')
 
 
 main()

@@ -1,12 +1,21 @@
-// The cases that the program is run on, one after the other: a header line, the note's bytes, and a line end. The header line
-// is four decimal numbers of six digits with a space between them: how many numbers are lent to the definition table, how many
-// to the span table, how many bytes to the page, and how many bytes the note has.
+// The cases that the program is run on, one after the other: a header line, the note's bytes and a line end, the label's bytes and a
+// line end. The header line is five decimal numbers of six digits with a space between them: how many numbers are lent to the
+// definition table, how many to the span table, how many bytes to the page, how many bytes the note has, and how many the label.
 
 ghost use mathlib.Core.Path.{_≡_};
 ghost use Rattle.samples.specs.Container.{numberFrom, ruled, headerOf, lineOf};
 
 // The length of a header line with its line end.
-pub const HEADER: usize = 28;
+pub const HEADER: usize = 35;
+
+// The numbers lent to each table, the bytes lent to the page, and the lengths of the note and the label.
+pub struct Sizes {
+    pub definitions: usize,
+    pub spans: usize,
+    pub page: usize,
+    pub note: usize,
+    pub label: usize,
+}
 
 // A decimal number, or bytes that are none.
 pub enum Number {
@@ -14,13 +23,13 @@ pub enum Number {
     Bad,
 }
 
-// What a header line says: the numbers lent to each table, the bytes lent to the page, and the note's length.
+// What a header line says.
 pub enum Header {
-    Case(usize, usize, usize, usize),
+    Case(Sizes),
     Bad,
 }
 
-// Whether the line has a header's length, three spaces and a line end.
+// Whether the line has a header's length, four spaces and a line end.
 fn is_ruled(line: &[u8]) -> bool
     ensures { λ r. ⌜ r ≡ ruled (now (line .entry)) ⌝ }
 {
@@ -28,26 +37,42 @@ fn is_ruled(line: &[u8]) -> bool
         & (scan::peek(line, 6) == 32)
         & (scan::peek(line, 13) == 32)
         & (scan::peek(line, 20) == 32)
-        & (scan::peek(line, 27) == 10)
+        & (scan::peek(line, 27) == 32)
+        & (scan::peek(line, 34) == 10)
 }
 
 // The header with these numbers.
-fn header_with(definitions: Number, spans: Number, page: Number, length: Number) -> Header
-    ensures { λ r. ⌜ r ≡ headerOf definitions spans page length ⌝ }
+fn header_with(
+    definitions: Number,
+    spans: Number,
+    page: Number,
+    note: Number,
+    label: Number,
+) -> Header
+    ensures { λ r. ⌜ r ≡ headerOf definitions spans page note label ⌝ }
 {
-    let Number::Of(d) = definitions else {
+    let Number::Of(definitions) = definitions else {
         return Header::Bad;
     };
-    let Number::Of(n) = spans else {
+    let Number::Of(spans) = spans else {
         return Header::Bad;
     };
-    let Number::Of(p) = page else {
+    let Number::Of(page) = page else {
         return Header::Bad;
     };
-    let Number::Of(k) = length else {
+    let Number::Of(note) = note else {
         return Header::Bad;
     };
-    Header::Case(d, n, p, k)
+    let Number::Of(label) = label else {
+        return Header::Bad;
+    };
+    Header::Case(Sizes {
+        definitions,
+        spans,
+        page,
+        note,
+        label,
+    })
 }
 
 // What a header line says.
@@ -58,8 +83,9 @@ pub fn read_header(line: &[u8]) -> Header
         let definitions = read_number(&line[0..6]);
         let spans = read_number(&line[7..13]);
         let page = read_number(&line[14..20]);
-        let length = read_number(&line[21..27]);
-        return header_with(definitions, spans, page, length);
+        let note = read_number(&line[21..27]);
+        let label = read_number(&line[28..34]);
+        return header_with(definitions, spans, page, note, label);
     }
     Header::Bad
 }

@@ -1,23 +1,22 @@
-// Runs the reader and the page writer on the cases of standard input (container.rt). Prints the reader's answer with both tables
-// whole, and the page writer's with the page buffer whole. What is lent and not written shows as the guard.
+// Runs the three entries on the cases of standard input (container.rt). Prints the reader's answer with both tables whole, the page
+// writer's with both tables and the page buffer whole, and the enquiry's with the part that it hands back. What is lent and not
+// written shows as the guard.
 mod container;
 mod print;
 
 use container::Header;
+use container::Sizes;
 use libc::STDIN_FILENO;
 ghost use Prim.Native.Nat.{_≤_};
 ghost use mathlib.Core.Path.{_≡_};
 ghost use lib.ListN.{length};
+ghost use Rattle.samples.specs.Container.{Lendable, Framed};
 
 // What each lent number holds before a call: no place, kind or definition number of a note.
 const GUARD: u32 = 99999;
 
 // What each lent byte of the page holds before the call: no byte of a note or a page.
 const PAGE_GUARD: u8 = 13;
-
-const DEFINITION_WIDTH: usize = 6;
-
-const SPAN_WIDTH: usize = 10;
 
 // The most that a case can lend: numbers of each table, bytes of the page.
 const DEFINITION_ROOM: usize = 1200;
@@ -45,37 +44,39 @@ fn page_buffer() -> [u8; PAGE_ROOM]
     [PAGE_GUARD; PAGE_ROOM]
 }
 
-// Runs the reader on the note with `d` numbers of a definition table and `n` of a span table lent, and prints what it answers and
-// leaves.
-fn show_reading(note: &[u8], d: usize, n: usize)
-    requires { ⌜ d ≤ 1200 ⌝ }
-    requires { ⌜ n ≤ 3000 ⌝ }
+// Runs the reader on the note with as much lent as `sizes` says, and prints what it answers and the tables that it leaves.
+fn show_reading(note: &[u8], sizes: Sizes)
+    requires { ⌜ Lendable sizes ⌝ }
 {
     let mut definition_room = definition_table();
     let mut span_room = span_table();
-    let definitions = &mut definition_room[..d];
-    let spans = &mut span_room[..n];
+    let definitions = &mut definition_room[..sizes.definitions];
+    let spans = &mut span_room[..sizes.spans];
     print::reading(notice::read(note, definitions, spans));
-    print::rows(b"definition", definitions, DEFINITION_WIDTH);
-    print::rows(b"span", spans, SPAN_WIDTH);
+    print::tables(definitions, spans);
 }
 
-// Runs the page writer on the note with as much lent, and `p` bytes of a page, and prints what it answers and the page that it
-// leaves.
-fn show_rendering(note: &[u8], d: usize, n: usize, p: usize)
-    requires { ⌜ d ≤ 1200 ⌝ }
-    requires { ⌜ n ≤ 3000 ⌝ }
-    requires { ⌜ p ≤ 40960 ⌝ }
+// Runs the page writer likewise, and prints what it answers and the tables and the page that it leaves.
+fn show_rendering(note: &[u8], sizes: Sizes)
+    requires { ⌜ Lendable sizes ⌝ }
 {
     let mut definition_room = definition_table();
     let mut span_room = span_table();
     let mut page_room = page_buffer();
-    let definitions = &mut definition_room[..d];
-    let spans = &mut span_room[..n];
-    let page = &mut page_room[..p];
+    let definitions = &mut definition_room[..sizes.definitions];
+    let spans = &mut span_room[..sizes.spans];
+    let page = &mut page_room[..sizes.page];
     print::rendering(rendering::render(note, definitions, spans, page));
-    print::text(page);
-    print::text(b"\n");
+    print::tables(definitions, spans);
+    print::line(page);
+}
+
+// Runs the enquiry, and prints what it answers and the part that it hands back.
+fn show_enquiry(note: &[u8], label: &[u8]) {
+    let mut answer: [u64; 2] = [0; 2];
+    let part = enquiry::resolve(note, label, &mut answer);
+    print::enquiry(&answer);
+    print::line(part);
 }
 
 // The container does not go on as it should.
@@ -84,44 +85,53 @@ fn stop() -> bool {
     false
 }
 
-// Reads a note and the line end after it, which fill `line`, and runs the reader and the page writer on it.
-fn run_note(line: &mut [u8], d: usize, n: usize, p: usize) -> bool
-    requires { ⌜ d ≤ 1200 ⌝ }
-    requires { ⌜ n ≤ 3000 ⌝ }
-    requires { ⌜ p ≤ 40960 ⌝ }
+// Runs the three entries on the note and the label that stand in `lines`, each with a line end after it.
+fn run_lines(lines: &[u8], sizes: Sizes) -> bool
+    requires { ⌜ Lendable sizes ⌝ }
+    requires { ⌜ Framed (length (now lines)) sizes ⌝ }
 {
-    let got = io::read_full(STDIN_FILENO, line);
-    if got != line.len() {
+    let length = sizes.note;
+    let start = length + 1;
+    let end = start + sizes.label;
+    if (lines[length] != b'\n') | (lines[end] != b'\n') {
         return stop();
     }
-    if got == 0 {
-        return stop();
-    }
-    let length = got - 1;
-    if line[length] != b'\n' {
-        return stop();
-    }
-    let note = &line[..length];
-    show_reading(note, d, n);
-    show_rendering(note, d, n, p);
+    let note = &lines[..length];
+    show_reading(note, sizes);
+    show_rendering(note, sizes);
+    show_enquiry(note, &lines[start..end]);
     true
 }
 
-// Runs the next note, of `k` bytes, if there is room for it and for what it is to be lent.
-fn run_part(room: &mut [u8], d: usize, n: usize, p: usize, k: usize) -> bool {
-    if k >= room.len() {
+// Reads `lines` full, and runs them.
+fn read_lines(lines: &mut [u8], sizes: Sizes) -> bool
+    requires { ⌜ Lendable sizes ⌝ }
+    requires { ⌜ Framed (length (now lines)) sizes ⌝ }
+{
+    if io::read_full(STDIN_FILENO, lines) != lines.len() {
         return stop();
     }
-    if d > DEFINITION_ROOM {
+    run_lines(lines, sizes)
+}
+
+// Runs the next note and label, if there is room for them and for what is to be lent.
+fn run_sizes(room: &mut [u8], sizes: Sizes) -> bool {
+    if sizes.note >= room.len() {
         return stop();
     }
-    if n > SPAN_ROOM {
+    if sizes.label >= room.len() - sizes.note - 1 {
         return stop();
     }
-    if p > PAGE_ROOM {
+    if sizes.definitions > DEFINITION_ROOM {
         return stop();
     }
-    run_note(&mut room[..k + 1], d, n, p)
+    if sizes.spans > SPAN_ROOM {
+        return stop();
+    }
+    if sizes.page > PAGE_ROOM {
+        return stop();
+    }
+    read_lines(&mut room[..sizes.note + sizes.label + 2], sizes)
 }
 
 // Runs the next case, if there is one, and answers whether to go on.
@@ -134,11 +144,11 @@ fn run_case(index: u64) -> bool {
     print::text(b"case");
     print::number(index);
     print::text(b"\n");
-    let Header::Case(d, n, p, k) = container::read_header(&line[..got]) else {
+    let Header::Case(sizes) = container::read_header(&line[..got]) else {
         return stop();
     };
     let mut room = io::large_buffer();
-    run_part(&mut room, d, n, p, k)
+    run_sizes(&mut room, sizes)
 }
 
 fn main() {

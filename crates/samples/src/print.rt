@@ -5,8 +5,18 @@ use notice::answer;
 use rendering::Rendering;
 ghost use Prim.Native.Nat.{_<_, _≤_};
 
+const DEFINITION_WIDTH: usize = 6;
+
+const SPAN_WIDTH: usize = 10;
+
 pub fn text(bytes: &[u8]) {
     io::write_all(STDOUT_FILENO, bytes);
+}
+
+// The bytes and a line end.
+pub fn line(bytes: &[u8]) {
+    text(bytes);
+    text(b"\n");
 }
 
 // A space and the number.
@@ -33,6 +43,14 @@ pub fn rendering(r: Rendering) {
     number(rendering::definition_count(r));
     number(rendering::span_count(r));
     number(rendering::page_length(r));
+    text(b"\n");
+}
+
+// One line: the enquiry's answer's number and its value.
+pub fn enquiry(answer: &[u64; 2]) {
+    text(b"enquiry");
+    number(answer[0]);
+    number(answer[1]);
     text(b"\n");
 }
 
@@ -64,7 +82,7 @@ fn row_end(start: usize, numbers: usize, width: usize) -> usize
 }
 
 // Every number of the table, a row to a line. What is no whole row at the end is a line too.
-pub fn rows(name: &[u8], table: &[u32], width: usize)
+fn rows(name: &[u8], table: &[u32], width: usize)
     requires { ⌜ 0 < width ⌝ }
 {
     let mut i = 0;
@@ -73,4 +91,10 @@ pub fn rows(name: &[u8], table: &[u32], width: usize)
         row(name, &table[i..end]);
         i = end;
     }
+}
+
+// Both tables whole.
+pub fn tables(definitions: &[u32], spans: &[u32]) {
+    rows(b"definition", definitions, DEFINITION_WIDTH);
+    rows(b"span", spans, SPAN_WIDTH);
 }

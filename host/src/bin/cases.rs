@@ -45,11 +45,12 @@ fn print(bytes: &[u8]) -> Result<ExitCode, Error> {
     Ok(ExitCode::SUCCESS)
 }
 
-/// What the reader and the page writer answer, and what they leave.
+/// What the three entries answer, and what they leave.
 fn print_case(out: &mut impl Write, index: usize, case: &Case) -> Result<(), Error> {
     writeln!(out, "case {index}")?;
     print_reading(out, case)?;
-    print_rendering(out, case)
+    print_rendering(out, case)?;
+    print_enquiry(out, case)
 }
 
 /// The reader's answer, and both tables whole.
@@ -62,16 +63,10 @@ fn print_reading(out: &mut impl Write, case: &Case) -> Result<(), Error> {
     )?;
     let definitions = answer.definition_table(&vec![GUARD; case.definition_numbers]);
     let spans = answer.span_table(&vec![GUARD; case.span_numbers]);
-    print_rows(
-        out,
-        "definition",
-        &definitions,
-        second::DEFINITION_ROW_WIDTH,
-    )?;
-    print_rows(out, "span", &spans, second::SPAN_ROW_WIDTH)
+    print_tables(out, &definitions, &spans)
 }
 
-/// The page writer's answer, and the page buffer whole.
+/// The page writer's answer, both tables and the page buffer whole.
 fn print_rendering(out: &mut impl Write, case: &Case) -> Result<(), Error> {
     let answer = second::render(
         case.note,
@@ -84,8 +79,25 @@ fn print_rendering(out: &mut impl Write, case: &Case) -> Result<(), Error> {
         "rendering {} {} {} {} {}",
         answer.number, answer.value, answer.definition_count, answer.span_count, answer.page_length
     )?;
+    let definitions = answer.definition_table(&vec![GUARD; case.definition_numbers]);
+    let spans = answer.span_table(&vec![GUARD; case.span_numbers]);
+    print_tables(out, &definitions, &spans)?;
     out.write_all(&answer.page_buffer(&vec![PAGE_GUARD; case.page_bytes]))?;
     writeln!(out)
+}
+
+/// The enquiry's answer, and the part of the note that it hands back.
+fn print_enquiry(out: &mut impl Write, case: &Case) -> Result<(), Error> {
+    let answer = second::resolve(case.note, case.label);
+    writeln!(out, "enquiry {} {}", answer.number, answer.value)?;
+    out.write_all(&case.note[answer.destination])?;
+    writeln!(out)
+}
+
+/// Both tables whole.
+fn print_tables(out: &mut impl Write, definitions: &[u32], spans: &[u32]) -> Result<(), Error> {
+    print_rows(out, "definition", definitions, second::DEFINITION_ROW_WIDTH)?;
+    print_rows(out, "span", spans, second::SPAN_ROW_WIDTH)
 }
 
 /// Every number of the table, a row to a line; what is no whole row at the end is a line too.

@@ -15,13 +15,13 @@ array-borrow-prefix-definition-room : tie.Need-array-borrow-prefix-definition-ro
 array-borrow-prefix-definition-room c = search needs
 
 slice-aggregate-definitions : tie.Need-slice-aggregate-definitions
-slice-aggregate-definitions c = simp length-take (omega arith)
+slice-aggregate-definitions c = simp length-take (omega (arith, c .before .before .before .before .pre .definitions))
 
 array-borrow-prefix-span-room : tie.Need-array-borrow-prefix-span-room
 array-borrow-prefix-span-room c = search needs
 
 slice-aggregate-spans : tie.Need-slice-aggregate-spans
-slice-aggregate-spans c = simp length-take (omega arith)
+slice-aggregate-spans c = simp length-take (omega (arith, c .before .before .before .before .before .pre .spans))
 
 read-requires : tie.Need-read-requires
 read-requires c κs = search needs
@@ -29,17 +29,8 @@ read-requires c κs = search needs
 reading-requires : tie.Need-reading-requires
 reading-requires c κs = search needs
 
-slice-aggregate-rows : tie.Need-slice-aggregate-rows
-slice-aggregate-rows c = search needs
-
-rows-requires : tie.Need-rows-requires
-rows-requires c κs = search needs
-
-slice-aggregate-rows-2 : tie.Need-slice-aggregate-rows-2
-slice-aggregate-rows-2 c = search needs
-
-rows-requires-2 : tie.Need-rows-requires-2
-rows-requires-2 c κs = search needs
+tables-requires : tie.Need-tables-requires
+tables-requires c κs = search needs
 
 returns : tie.Need-returns
 returns c = search needs
@@ -56,8 +47,5 @@ show-reading-spec =
     slice-aggregate-spans
     read-requires
     reading-requires
-    slice-aggregate-rows
-    rows-requires
-    slice-aggregate-rows-2
-    rows-requires-2
+    tables-requires
     returns)

@@ -18,19 +18,19 @@ array-borrow-prefix-definition-room : tie.Need-array-borrow-prefix-definition-ro
 array-borrow-prefix-definition-room c = search needs
 
 slice-aggregate-definitions : tie.Need-slice-aggregate-definitions
-slice-aggregate-definitions c = simp length-take (omega arith)
+slice-aggregate-definitions c = simp length-take (omega (arith, c .before .before .before .before .before .pre .definitions))
 
 array-borrow-prefix-span-room : tie.Need-array-borrow-prefix-span-room
 array-borrow-prefix-span-room c = search needs
 
 slice-aggregate-spans : tie.Need-slice-aggregate-spans
-slice-aggregate-spans c = simp length-take (omega arith)
+slice-aggregate-spans c = simp length-take (omega (arith, c .before .before .before .before .before .before .pre .spans))
 
 array-borrow-prefix-page-room : tie.Need-array-borrow-prefix-page-room
 array-borrow-prefix-page-room c = search needs
 
 slice-aggregate-page : tie.Need-slice-aggregate-page
-slice-aggregate-page c = simp length-take (omega arith)
+slice-aggregate-page c = simp length-take (omega (arith, c .before .before .before .before .before .before .before .pre .page))
 
 render-requires : tie.Need-render-requires
 render-requires c κs = search needs
@@ -38,14 +38,11 @@ render-requires c κs = search needs
 rendering-requires : tie.Need-rendering-requires
 rendering-requires c κs = search needs
 
-text-requires : tie.Need-text-requires
-text-requires c κs = search needs
+tables-requires : tie.Need-tables-requires
+tables-requires c κs = search needs
 
-slice-aggregate-text : tie.Need-slice-aggregate-text
-slice-aggregate-text c = search needs
-
-text-requires-2 : tie.Need-text-requires-2
-text-requires-2 c κs = search needs
+line-requires : tie.Need-line-requires
+line-requires c κs = search needs
 
 returns : tie.Need-returns
 returns c = search needs
@@ -65,7 +62,6 @@ show-rendering-spec =
     slice-aggregate-page
     render-requires
     rendering-requires
-    text-requires
-    slice-aggregate-text
-    text-requires-2
+    tables-requires
+    line-requires
     returns)

@@ -1,6 +1,6 @@
--- Four numbers make a header.
+-- Five numbers make a header.
 use borrow.Author.Needs.{needs}
-use Rattle.samples.specs.Container.{cased}
+use Rattle.samples.proofs.Header.{cased, no-note, no-label}
 use Rattle.samples.proofs.container.header_with.Statement.{statement}
 use Rattle.samples.proofs.container.header_with.Tie as tie
 
@@ -31,17 +31,26 @@ enum-told-3 c = search needs
 returns-3 : tie.Need-returns-3
 returns-3 c = search needs
 
-enum-known-length : tie.Need-enum-known-length
-enum-known-length c = search needs
+enum-known-note : tie.Need-enum-known-note
+enum-known-note c = search needs
 
 enum-told-4 : tie.Need-enum-told-4
 enum-told-4 c = search needs
 
 returns-4 : tie.Need-returns-4
-returns-4 c = search needs
+returns-4 c = search (no-note, needs)
+
+enum-known-label : tie.Need-enum-known-label
+enum-known-label c = search needs
+
+enum-told-5 : tie.Need-enum-told-5
+enum-told-5 c = search needs
 
 returns-5 : tie.Need-returns-5
-returns-5 c = search (cased, needs)
+returns-5 c = search (no-label, needs)
+
+returns-6 : tie.Need-returns-6
+returns-6 c = search (cased, needs)
 
 pub header-with-spec : {M : Type 1} → statement M
 header-with-spec =
@@ -56,7 +65,10 @@ header-with-spec =
     enum-known-page
     enum-told-3
     returns-3
-    enum-known-length
+    enum-known-note
     enum-told-4
     returns-4
-    returns-5)
+    enum-known-label
+    enum-told-5
+    returns-5
+    returns-6)

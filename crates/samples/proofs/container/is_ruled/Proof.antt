@@ -15,9 +15,19 @@ peek-requires-3 c κs = search needs
 peek-requires-4 : tie.Need-peek-requires-4
 peek-requires-4 c κs = search needs
 
+peek-requires-5 : tie.Need-peek-requires-5
+peek-requires-5 c κs = search needs
+
 returns : tie.Need-returns
-returns c = rw (c .before .before .before .peek .ensures, c .before .before .peek2 .ensures, c .before .peek3 .ensures, c .peek4 .ensures)
+returns c = rw (c .before .before .before .before .peek .ensures, c .before .before .before .peek2 .ensures, c .before .before .peek3 .ensures, c .before .peek4 .ensures, c .peek5 .ensures)
 
 pub is-ruled-spec : {M : Type 1} → statement M
 is-ruled-spec =
-    tie.close (tie.spec peek-requires peek-requires-2 peek-requires-3 peek-requires-4 returns)
+    tie.close
+    (tie.spec
+    peek-requires
+    peek-requires-2
+    peek-requires-3
+    peek-requires-4
+    peek-requires-5
+    returns)

@@ -1,8 +1,8 @@
--- A ruled line has 28 bytes, so that each number lies within it.
+-- A ruled line has 35 bytes, so that each number lies within it.
 use borrow.Author.Needs.{needs}
 use native.Mathlib.Omega.{arith}
 use denote.Ref.{now}
-use Rattle.samples.specs.Container.{ruled-length, said, unsaid}
+use Rattle.samples.proofs.Header.{ruled-length, said, unsaid}
 use Rattle.samples.proofs.container.read_header.Statement.{statement}
 use Rattle.samples.proofs.container.read_header.Tie as tie
 
@@ -57,6 +57,18 @@ part-read-number-end-4 c = omega (arith, ruled-length (now (c .before .before .b
 read-number-requires-4 : tie.Need-read-number-requires-4
 read-number-requires-4 c κs = search needs
 
+sub-read-number-5 : tie.Need-sub-read-number-5
+sub-read-number-5 c = search needs
+
+part-read-number-start-5 : tie.Need-part-read-number-start-5
+part-read-number-start-5 c = search needs
+
+part-read-number-end-5 : tie.Need-part-read-number-end-5
+part-read-number-end-5 c = omega (arith, ruled-length (now (c .before .before .before .before .before .before .before .before .before .before .before .args .line)) (c .before .before .before .before .before .before .before .before .before .is-ruled .ensures) (c .before .before .before .before .before .before .before .before .if1 .taken))
+
+read-number-requires-5 : tie.Need-read-number-requires-5
+read-number-requires-5 c κs = search needs
+
 header-with-requires : tie.Need-header-with-requires
 header-with-requires c κs = search needs
 
@@ -87,6 +99,10 @@ read-header-spec =
     part-read-number-start-4
     part-read-number-end-4
     read-number-requires-4
+    sub-read-number-5
+    part-read-number-start-5
+    part-read-number-end-5
+    read-number-requires-5
     header-with-requires
     returns
     returns-2)

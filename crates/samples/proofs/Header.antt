@@ -1,0 +1,65 @@
+-- The ways through a turn of `read_number`, and what the functions that read a header need.
+use Prim.Native.Nat.{ℕ, _+_, _-_, _*_, _≤_, _<_}
+use native.Mathlib.Omega.{arith}
+use mathlib.Core.Path.{_≡_, sym, _∙_}
+use mathlib.Core.Bool.{Bool, true, false}
+use mathlib.Core.List.{List}
+use borrow.Author.Tests.{eqb-true, le-leb, lt-leb, lt-ltb, le-ltb}
+use lib.ListN.{length, take, length-take}
+use lib.Dec.{leb}
+use Rattle.scan.proofs.Test.{and-left, and-false}
+use Rattle.scan.specs.Reading.{stop, next}
+use Rattle.samples.specs.declared.container.Number.{Number}
+use Rattle.samples.specs.declared.container.Number.the-variants as number
+use Rattle.samples.specs.declared.container.Sizes.{Sizes}
+use Rattle.samples.specs.declared.container.Header.{Header}
+use Rattle.samples.specs.declared.container.Header.the-variants as header
+use Rattle.samples.specs.Container.{digit, digitStep, field, ruled, sizes, headerOf, lineOf, Lendable, Framed}
+
+-- ---- the ways of a turn
+pub below : (n b : ℕ) (s : List ℕ) → b < 48 → digitStep n b s ≡ stop number.Bad
+unfolding digitStep
+below n b s h = rw (lt-leb 48 b h)
+
+pub above : (n b : ℕ) (s : List ℕ) → 57 < b → digitStep n b s ≡ stop number.Bad
+unfolding digitStep
+above n b s h = rw (lt-leb b 57 h, and-false (leb 48 b))
+
+pub full : (n b : ℕ) (s : List ℕ) → 100000 ≤ n → digitStep n b s ≡ stop number.Bad
+unfolding digitStep
+full n b s h = rw (le-ltb n 100000 h, and-false (digit b))
+
+pub taken : (n b : ℕ) (s : List ℕ) → 48 ≤ b → b ≤ 57 → n < 100000 → digitStep n b s ≡ next (n * 10 + (b - 48))
+unfolding digitStep
+taken n b s l u h = rw (le-leb 48 b l, le-leb b 57 u, lt-ltb n 100000 h)
+
+-- ---- a header
+pub cased : {v w x y z : Number} {d n p k l : ℕ} → v ≡ number.Of d → w ≡ number.Of n → x ≡ number.Of p → y ≡ number.Of k → z ≡ number.Of l
+    → header.Case (sizes d n p k l) ≡ headerOf v w x y z
+cased e f g h i = rw (e, f, g, h, i)
+
+pub no-note : {v w x y : Number} (z : Number) {d n p : ℕ} → v ≡ number.Of d → w ≡ number.Of n → x ≡ number.Of p → y ≡ number.Bad → header.Bad ≡ headerOf v w x y z
+no-note z e f g h = rw (e, f, g, h)
+
+pub no-label : {v w x y z : Number} {d n p k : ℕ} → v ≡ number.Of d → w ≡ number.Of n → x ≡ number.Of p → y ≡ number.Of k → z ≡ number.Bad
+    → header.Bad ≡ headerOf v w x y z
+no-label e f g h i = rw (e, f, g, h, i)
+
+module _ (line : List ℕ) {b : Bool} (tells : b ≡ ruled line) where
+  pub ruled-length : b ≡ true → length line ≡ 35
+  ruled-length t = eqb-true (length line) 35 (and-left _ _ (and-left _ _ (and-left _ _ (and-left _ _ (and-left _ _ (sym tells ∙ t))))))
+
+  pub said : b ≡ true → {v w x y z : Number} {r : Header} → v ≡ field line 0 → w ≡ field line 7 → x ≡ field line 14 → y ≡ field line 21 → z ≡ field line 28
+      → r ≡ headerOf v w x y z → r ≡ lineOf line
+  said t f g h i j r = rw (r, f, g, h, i, j, sym tells ∙ t)
+
+  pub unsaid : b ≡ false → header.Bad ≡ lineOf line
+  unsaid f = rw (sym tells ∙ f)
+
+-- ---- a case
+pub lendable : (s : Sizes) → s .definitions ≤ 1200 → s .spans ≤ 3000 → s .page ≤ 40960 → Lendable s
+lendable s d n p = record { definitions = d; spans = n; page = p }
+
+pub framed : (room : List ℕ) (s : Sizes) → s .note < length room → s .label < length room - s .note - 1
+    → Framed (length (take (s .note + s .label + 2) room)) s
+framed room s n l = simp length-take (omega arith)

@@ -1,0 +1,67 @@
+-- A part that lies within has the length asked for.
+use borrow.Author.Needs.{needs}
+use native.Mathlib.Omega.{arith}
+use lib.ListN.{length-take}
+use Rattle.samples.proofs.run_lines.Statement.{statement}
+use Rattle.samples.proofs.run_lines.Tie as tie
+
+add-start : tie.Need-add-start
+add-start c = search needs
+
+add-end : tie.Need-add-end
+add-end c = search needs
+
+shared-slice-read-if1 : tie.Need-shared-slice-read-if1
+shared-slice-read-if1 c = search needs
+
+shared-slice-read-if1-2 : tie.Need-shared-slice-read-if1-2
+shared-slice-read-if1-2 c = search needs
+
+stop-requires : tie.Need-stop-requires
+stop-requires c κs = search needs
+
+returns : tie.Need-returns
+returns c = search needs
+
+slice-aggregate-note : tie.Need-slice-aggregate-note
+slice-aggregate-note c = simp length-take (omega arith)
+
+show-reading-requires : tie.Need-show-reading-requires
+show-reading-requires c κs = search needs
+
+show-rendering-requires : tie.Need-show-rendering-requires
+show-rendering-requires c κs = search needs
+
+sub-show-enquiry : tie.Need-sub-show-enquiry
+sub-show-enquiry c = search needs
+
+part-show-enquiry-start : tie.Need-part-show-enquiry-start
+part-show-enquiry-start c = search needs
+
+part-show-enquiry-end : tie.Need-part-show-enquiry-end
+part-show-enquiry-end c = search needs
+
+show-enquiry-requires : tie.Need-show-enquiry-requires
+show-enquiry-requires c κs = search needs
+
+returns-2 : tie.Need-returns-2
+returns-2 c = search needs
+
+pub run-lines-spec : {M : Type 1} → statement M
+run-lines-spec =
+    tie.close
+    (tie.spec
+    add-start
+    add-end
+    shared-slice-read-if1
+    shared-slice-read-if1-2
+    stop-requires
+    returns
+    slice-aggregate-note
+    show-reading-requires
+    show-rendering-requires
+    sub-show-enquiry
+    part-show-enquiry-start
+    part-show-enquiry-end
+    show-enquiry-requires
+    returns-2)
