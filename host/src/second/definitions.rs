@@ -1,0 +1,189 @@
+//! Blocks, link reference definitions, and what is left of a block: its paragraph.
+
+use super::text::{is_space, Descent, Part, Text};
+use super::wrong::Gap;
+use super::{Reader, Wrong};
+
+/// A definition with its label's compared form.
+#[derive(Debug)]
+pub(super) struct Definition {
+    pub label: Part,
+    pub destination: Part,
+    pub title: Option<Part>,
+    pub compared_label: String,
+}
+
+/// What stands in a note: its definitions and its paragraphs, both in note order.
+pub(super) struct Outline {
+    pub definitions: Vec<Definition>,
+    pub paragraphs: Vec<Text>,
+}
+
+impl Descent<'_> {
+    /// "A definition: at most three spaces, `[`, label, `]`, `:`, optional space, a destination,
+    /// then either at least one byte of space, a title, any or no spaces and tabs, end of line; or,
+    /// only if that fails, any or no spaces and tabs and end of line."
+    fn definition(&mut self) -> Option<(Part, Part, Option<Part>)> {
+        self.at_most_three_spaces();
+        let label = self.bracketed_label()?;
+        if self.misreads(Wrong::SpaceBeforeColon) {
+            self.spaces_and_tabs(Gap::BeforeDestination);
+        }
+        self.exactly(':')?;
+        if self.misreads(Wrong::SpaceAfterColonNeeded) {
+            self.some_space(Gap::BeforeDestination)?;
+        }
+        self.optional_space(Gap::BeforeDestination);
+        let destination = self.destination()?;
+        let title = self.optionally(Descent::title_to_end_of_line);
+        if title.is_none() {
+            self.no_title()?;
+        }
+        Some((label, destination, title))
+    }
+
+    /// "at most three spaces".
+    fn at_most_three_spaces(&mut self) {
+        let most = self
+            .text
+            .reader
+            .limit(3, Wrong::TwoSpacesBefore, Wrong::FourSpacesBefore);
+        for _ in 0..most {
+            let _ = self.exactly(' ');
+        }
+        if self.misreads(Wrong::TabBefore) {
+            let _ = self.exactly('\t');
+        }
+    }
+
+    /// "at least one byte of space, a title, any or no spaces and tabs, end of line".
+    fn title_to_end_of_line(&mut self) -> Option<Part> {
+        let title = self.spaced_title(Gap::BeforeTitle)?;
+        self.spaces_and_tabs(Gap::AfterTitle);
+        self.end_of_line()?;
+        Some(title)
+    }
+
+    /// "any or no spaces and tabs and end of line".
+    fn no_title(&mut self) -> Option<()> {
+        let starts_title = |mut ahead: Descent| ahead.spaced_title(Gap::BeforeTitle).is_some();
+        if self.misreads(Wrong::BadTitleNoDefinition) && starts_title(*self) {
+            return None;
+        }
+        self.spaces_and_tabs(Gap::AfterDestination);
+        while self.misreads(Wrong::RestOfLineDropped) && !matches!(self.next(), None | Some('\n')) {
+            self.at += 1;
+        }
+        self.end_of_line()
+    }
+}
+
+impl Reader {
+    /// The definitions and paragraphs of a note, block after block.
+    pub(super) fn outline(self, note: &str) -> Outline {
+        let mut outline = Outline {
+            definitions: Vec::new(),
+            paragraphs: Vec::new(),
+        };
+        for block in self.blocks(note) {
+            let start = self.take_definitions(note, block, &mut outline.definitions);
+            let left_over = Part { start, ..block };
+            outline.paragraphs.extend(self.paragraph(note, left_over));
+        }
+        outline
+    }
+
+    /// "From its first line, and from the block's bytes alone, definitions are taken while they can
+    /// be". Answers where what is left over starts.
+    fn take_definitions(self, note: &str, block: Part, found: &mut Vec<Definition>) -> usize {
+        let text = Text::of_part(self, note, block);
+        let mut descent = Descent::from(&text, 0);
+        while let Some((label, destination, title)) = descent.optionally(Descent::definition) {
+            let compared_label = self.compared_form(label.of(note));
+            let is_equal = |earlier: &Definition| earlier.compared_label == compared_label;
+            if self.misreads(Wrong::RepeatsLeftOut) && found.iter().any(is_equal) {
+                continue;
+            }
+            found.push(Definition {
+                label,
+                destination,
+                title,
+                compared_label,
+            });
+            if self.misreads(Wrong::OneDefinitionABlock) {
+                break;
+            }
+        }
+        descent.place()
+    }
+
+    /// "bytes left over, if any, less a final LF, are a paragraph."
+    fn paragraph(self, note: &str, mut left_over: Part) -> Option<Text> {
+        let ends = |part: Part, last: char| part.of(note).ends_with(last);
+        if ends(left_over, '\n') && !self.misreads(Wrong::FinalLineFeedKept) {
+            left_over.end -= 1;
+        }
+        while self.misreads(Wrong::LastSpacesStripped) && ends(left_over, ' ') {
+            left_over.end -= 1;
+        }
+        while self.misreads(Wrong::FirstSpacesStripped) && left_over.of(note).starts_with(' ') {
+            left_over.start += 1;
+        }
+        (left_over.start < left_over.end).then(|| Text::of_part(self, note, left_over))
+    }
+
+    /// "A blank line has only spaces and tabs. A block is a maximal run of other lines." Each line
+    /// stands here with its LF.
+    fn blocks(self, note: &str) -> Vec<Part> {
+        let mut blocks: Vec<Part> = Vec::new();
+        let mut inside_block = false;
+        let mut start = 0;
+        for line in note.split_inclusive('\n') {
+            let end = start + line.len();
+            let blank = self.is_blank(line);
+            match blocks.last_mut() {
+                _ if blank => {}
+                Some(block) if inside_block && !self.line_starts_block(line) => block.end = end,
+                _ => blocks.push(Part { start, end }),
+            }
+            inside_block = !blank;
+            start = end;
+        }
+        blocks
+    }
+
+    fn is_blank(self, line: &str) -> bool {
+        if self.misreads(Wrong::BlankLineIsEmpty) {
+            return line == "\n";
+        }
+        if self.misreads(Wrong::BlankLineOfUnicodeSpace) {
+            return line.chars().all(char::is_whitespace);
+        }
+        line.chars().all(is_space)
+    }
+
+    /// Never: "Nothing later in a block is a definition." A wrong reading starts a block anew there.
+    fn line_starts_block(self, line: &str) -> bool {
+        let starts_definition = || {
+            let text = Text::of_string(self, line);
+            Descent::from(&text, 0).definition().is_some()
+        };
+        self.misreads(Wrong::DefinitionAfterText) && starts_definition()
+    }
+
+    /// The number, from 1, of the definition a label names: "In a lookup the search stops at the
+    /// first equal label."
+    pub(super) fn look_up(self, definitions: &[Definition], label: &str) -> Option<usize> {
+        let wanted = self.compared_form(label);
+        let mut equal = definitions
+            .iter()
+            .enumerate()
+            .filter(|(_, definition)| definition.compared_label == wanted);
+        let found = if self.misreads(Wrong::LastDefinition) {
+            equal.last()
+        } else {
+            equal.next()
+        };
+        found.map(|(index, _)| index + 1)
+    }
+}

@@ -1,0 +1,80 @@
+//! Labels, and when two of them are equal.
+
+use super::text::{is_space, Descent, Part, Text};
+use super::wrong::Within;
+use super::{Reader, Wrong};
+
+/// A label has "at most 999 characters (code points)".
+pub const LONGEST_LABEL: usize = 999;
+
+impl Descent<'_> {
+    /// A label, up to its closing bracket.
+    ///
+    /// "A label ends at the first unescaped `]`. It has no unescaped `[`, a character other than
+    /// space, tab and LF, and at most 999 characters (code points)."
+    fn label(&mut self) -> Option<Part> {
+        let start = self.place();
+        let first = self.at;
+        let mut has_other_than_space = self.misreads(Wrong::BlankLabel);
+        loop {
+            if self.escape(Within::Label) {
+                has_other_than_space = true;
+                continue;
+            }
+            match self.next()? {
+                ']' => break,
+                '[' if !self.misreads(Wrong::BracketInLabel) => return None,
+                '\n' if self.misreads(Wrong::LabelOnOneLine) => return None,
+                character => has_other_than_space |= !is_space(character),
+            }
+            self.at += 1;
+        }
+        let label = self.since(start);
+        (has_other_than_space
+            && self.label_length(first, label) <= self.text.reader.longest_label())
+        .then_some(label)
+    }
+
+    /// How many characters the label has that ends here.
+    fn label_length(&self, first: usize, label: Part) -> usize {
+        if self.misreads(Wrong::LabelInBytes) {
+            return label.end - label.start;
+        }
+        self.at - first
+    }
+
+    /// "`[`, a label, `]`".
+    pub fn bracketed_label(&mut self) -> Option<Part> {
+        self.exactly('[')?;
+        let label = self.label()?;
+        self.exactly(']')?;
+        Some(label)
+    }
+}
+
+impl Reader {
+    pub(super) fn longest_label(self) -> usize {
+        self.limit(LONGEST_LABEL, Wrong::LabelOneShorter, Wrong::LabelOneLonger)
+    }
+
+    /// Whether the text, "set between `[` and `]`", is "exactly one label".
+    pub(super) fn is_label(self, text: &str) -> bool {
+        let bracketed = Text::of_string(self, &format!("[{text}]"));
+        let mut descent = Descent::from(&bracketed, 0);
+        descent.bracketed_label().is_some() && descent.next().is_none()
+    }
+
+    /// "Equal labels: fold A to Z to a to z, trim space, tab and LF, make each inner run of them
+    /// one space; then the bytes agree. Escapes are not undone."
+    pub(super) fn compared_form(self, label: &str) -> String {
+        if let Some(form) = self.misread_form(label) {
+            return form;
+        }
+        label
+            .split(is_space)
+            .filter(|word| !word.is_empty())
+            .map(str::to_ascii_lowercase)
+            .collect::<Vec<String>>()
+            .join(" ")
+    }
+}

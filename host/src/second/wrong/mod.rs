@@ -1,0 +1,32 @@
+//! Wrong readings. A [`Reader`] reads as document 01 says, or misreads one rule in a way that a
+//! person might: a [`Wrong`] is a switch, consulted where the rule stands.
+
+mod effects;
+mod switches;
+
+pub use switches::{Gap, IllFormed, Within, Written, Wrong};
+
+/// Who reads: by the rules, or with one of them misread.
+#[derive(Clone, Copy, Debug, PartialEq, Eq)]
+pub struct Reader {
+    wrong: Option<Wrong>,
+}
+
+impl Reader {
+    /// The reader by document 01.
+    pub const RIGHT: Reader = Reader { wrong: None };
+
+    /// The reader that misreads one rule.
+    pub fn misreading(wrong: Wrong) -> Reader {
+        Reader { wrong: Some(wrong) }
+    }
+
+    pub(in super::super) fn misreads(self, wrong: Wrong) -> bool {
+        self.wrong == Some(wrong)
+    }
+
+    /// A limit, which two wrong readings miss by one.
+    pub(in super::super) fn limit(self, right: usize, one_less: Wrong, one_more: Wrong) -> usize {
+        right + usize::from(self.misreads(one_more)) - usize::from(self.misreads(one_less))
+    }
+}
