@@ -1,20 +1,27 @@
 -- The rows of a paragraph: they are those of its marking, their ends increase, and spans and texts lie within it.
-use Prim.Native.Nat.{ℕ, zero, suc, _+_, _<_}
+use Prim.Native.Nat.{ℕ, zero, suc, _+_, _-_, _<_}
 use native.Mathlib.Omega.{arith}
-use mathlib.Core.Path.{_≡_, refl, ap, _∙_}
+use mathlib.Core.Path.{_≡_, refl, sym, ap, ap₂, _∙_, subst}
+use mathlib.Core.Logic.{_↔_}
 use mathlib.Core.Option.{some, Option·some-injective, Option·none-ne-some}
-use mathlib.Core.List.{List, [], _∷_, map}
-use lib.ListN.{length, getElem?}
-use Rattle.marking.specs.Marking.{Marking, Meets}
-use Rattle.marking.specs.Spans.{Span, codeSpan, linkSpan, spanEnd, EndsBefore, SpansAre}
+use mathlib.Core.List.{List, [], _∷_, map, Forall₂, Forall₂·nil, Forall₂·cons}
+use lib.ListN.{length, drop, getElem?}
+use Rattle.scan.specs.Reading.{run}
+use Rattle.scan.proofs.Every.{run-iff}
+use Rattle.marking.specs.Marking.{Piece, Marking, Meets}
+use Rattle.marking.specs.Spans.{Span, codeSpan, linkSpan, SpanOf, spanEnd, EndsBefore, SpansAre}
 use Rattle.marking.specs.Scan.{spans}
+use Rattle.row.specs.declared.Range.{Range}
 use Rattle.row.specs.declared.Definition.{Definition}
-use Rattle.inline.specs.Tails.{Tail}
+use Rattle.span.specs.Row.{numbers, codeSpanRow}
+use Rattle.inline.specs.Pieces.{backtick}
+use Rattle.inline.specs.Tails.{Tail, inline, full, collapsed, shortcut}
 use Rattle.inline.specs.Paragraph.{rules}
 use Rattle.inline.specs.Grammar.{grammar}
-use Rattle.inline.specs.Rows.{wholeOf, spanRow, spanRows, RowsAre, EndsIncrease, RowWithin}
+use Rattle.inline.specs.Rows.{wholeOf, CodeText, fromNote, RowIs, code-span, inline-link, full-reference, collapsed-reference, shortcut-reference, RowsAre, EndsIncrease, RowWithin}
+use Rattle.inline.specs.ReadingRows.{textOf, spanRow, spanRows}
 use Rattle.inline.proofs.Demand3.{the-marking, the-marking-meets, its-spans-are-read, no-other-span-list}
-use Rattle.inline.proofs.SpanBounds.{SpanWithin, span-within}
+use Rattle.inline.proofs.SpanBounds.{code-text, SpanWithin, span-within}
 
 record Mapped {A B : Type 0} (f : A → B) (xs : List A) (k : ℕ) (y : B) : Type 0 where
   from : A
@@ -26,13 +33,58 @@ mapped f [] k y e = absurd (Option·none-ne-some y e)
 mapped f (x ∷ xs) zero y e = record { from = x; at = refl; is = Option·some-injective (f x) y e }
 mapped f (x ∷ xs) (suc k) y e = let m = mapped f xs k y e in record { from = m .from; at = m .at; is = m .is }
 
+-- ---- the text of a code span, and the row of a span: what the law says is what is read
+pub code-text-read : (p : List ℕ) (q : Piece) (text : Range) → CodeText p q text → textOf p (codeSpan q) ≡ text
+code-text-read p q text t =
+    let e : run backtick (drop (q .start) p) ≡ t .count = run-iff backtick (drop (q .start) p) (t .count) .1 (t .opening-string .run) in
+    let from : q .start + run backtick (drop (q .start) p) ≡ text .start = omega (arith, t .from) in
+    let to : q .end - run backtick (drop (q .start) p) ≡ text .end = omega (arith, t .to) in
+    rw (from, to) refl
+
+pub row-read : (offset : ℕ) (p : List ℕ) (ds : List Definition) {x : Span Tail} {row : List ℕ} → RowIs offset p ds x row → spanRow offset p ds x ≡ row
+row-read offset p ds (code-span {q} {text} t) = ap (λ (r : Range). numbers (codeSpanRow (fromNote offset (wholeOf (codeSpan q))) (fromNote offset r))) (code-text-read p q text t)
+row-read offset p ds inline-link = refl
+row-read offset p ds full-reference = refl
+row-read offset p ds collapsed-reference = refl
+row-read offset p ds shortcut-reference = refl
+
+rows-read : (offset : ℕ) (p : List ℕ) (ds : List Definition) {xs : List (Span Tail)} {rows : List (List ℕ)} → Forall₂ (RowIs offset p ds) xs rows
+    → rows ≡ map (spanRow offset p ds) xs
+rows-read offset p ds Forall₂·nil = refl
+rows-read offset p ds (Forall₂·cons {a = x} {b = row} h t) =
+    ap₂ {A = List ℕ} {B = List (List ℕ)} {C = List (List ℕ)} _∷_ (sym (row-read offset p ds h)) (rows-read offset p ds t)
+
+module _ (p : List ℕ) (labels : List (List ℕ)) (m : Marking Tail) (c : Meets (rules p labels) m) where
+  pub code-text-is : (q : Piece) → SpanOf m (codeSpan q) → CodeText p q (textOf p (codeSpan q))
+  code-text-is q o =
+      let b = code-text p labels m c q o in
+      rw (b .text-is) (record { count = b .count; opening-string = b .opening-string; from = refl; to = omega (arith, b .apart) })
+
+  module _ (offset : ℕ) (ds : List Definition) where
+    row-made : (x : Span Tail) → SpanOf m x → RowIs offset p ds x (spanRow offset p ds x)
+    row-made (codeSpan q) o = code-span (code-text-is q o)
+    row-made (linkSpan o d (inline n a b)) l = inline-link
+    row-made (linkSpan o d (full n k)) l = full-reference
+    row-made (linkSpan o d (collapsed k)) l = collapsed-reference
+    row-made (linkSpan o d (shortcut k)) l = shortcut-reference
+
+    -- for the spans of a marking that meets the conditions the two say the same
+    pub row-iff : (x : Span Tail) → SpanOf m x → (row : List ℕ) → RowIs offset p ds x row ↔ (spanRow offset p ds x ≡ row)
+    row-iff x o row = ((λ r. row-read offset p ds r), (λ e. subst (RowIs offset p ds x) e (row-made x o)))
+
+    rows-made : (xs : List (Span Tail)) → ((k : ℕ) (x : Span Tail) → getElem? xs k ≡ some x → SpanOf m x) → Forall₂ (RowIs offset p ds) xs (map (spanRow offset p ds) xs)
+    rows-made [] f = Forall₂·nil
+    rows-made (x ∷ xs) f = Forall₂·cons (row-made x (f 0 x refl)) (rows-made xs (λ k y e. f (suc k) y e))
+
 module _ (offset : ℕ) (p : List ℕ) (labels : List (List ℕ)) (ds : List Definition) where
   -- the rows that are read are those of the marking, and there are no other
   pub rows-are-read : (m : Marking Tail) → Meets (rules p labels) m → RowsAre offset p labels ds m (spanRows offset p labels ds)
-  rows-are-read m c = record { spans = spans (grammar p labels); are = its-spans-are-read p labels m c; made = refl }
+  rows-are-read m c =
+      let are : SpansAre (rules p labels) m (spans (grammar p labels)) = its-spans-are-read p labels m c in
+      record { spans = spans (grammar p labels); are = are; made = rows-made p labels m c offset ds (spans (grammar p labels)) (λ k x e. are .no-others x (k, e)) }
 
   pub no-other-rows : (m : Marking Tail) → Meets (rules p labels) m → (rows : List (List ℕ)) → RowsAre offset p labels ds m rows → rows ≡ spanRows offset p labels ds
-  no-other-rows m c rows r = r .made ∙ ap (map (spanRow offset p ds)) (no-other-span-list p labels m c (r .spans) (r .are))
+  no-other-rows m c rows r = rows-read offset p ds (r .made) ∙ ap (map (spanRow offset p ds)) (no-other-span-list p labels m c (r .spans) (r .are))
 
   abbrev spans-are : SpansAre (rules p labels) (the-marking p labels) (spans (grammar p labels))
   spans-are = its-spans-are-read p labels (the-marking p labels) (the-marking-meets p labels)

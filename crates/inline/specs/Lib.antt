@@ -9,4 +9,5 @@ pub mod PieceBounds
 pub mod TailBounds
 pub mod Grammar
 pub mod Rows
+pub mod ReadingRows
 pub mod Samples

@@ -1,39 +1,34 @@
 -- The row of a span: document 01, "Rows".
-use Prim.Native.Nat.{ℕ, suc, _+_, _-_, _≤_, _<_}
+use Prim.Native.Nat.{ℕ, suc, _+_, _≤_, _<_}
 use mathlib.Core.Path.{_≡_}
 use mathlib.Core.Option.{Option, none, some}
-use mathlib.Core.List.{List, [], _∷_, map}
-use lib.ListN.{length, getD, drop, getElem?}
-use Rattle.scan.specs.Reading.{run}
-use Rattle.marking.specs.Marking.{Marking}
+use mathlib.Core.List.{List, Forall₂}
+use lib.ListN.{length, getD, getElem?}
+use Rattle.marking.specs.Marking.{Piece, Marking}
 use Rattle.marking.specs.Spans.{Span, codeSpan, linkSpan, SpansAre}
-use Rattle.marking.specs.Scan.{spans}
 use Rattle.row.specs.declared.Range.{Range}
 use Rattle.row.specs.declared.Definition.{Definition}
 use Rattle.row.specs.Row.{range, absent}
-use Rattle.span.specs.Row.{width}
-use Rattle.inline.specs.Pieces.{backtick}
+use Rattle.span.specs.Row.{width, numbers, definitionNumber, codeSpanRow, inlineRow, fullRow, collapsedRow, shortcutRow}
+use Rattle.inline.specs.Pieces.{Backticks}
 use Rattle.inline.specs.Tails.{Tail, inline, full, collapsed, shortcut, lengthOf}
 use Rattle.inline.specs.Paragraph.{rules}
-use Rattle.inline.specs.Grammar.{grammar}
-
--- "1 code span, 2 inline, 3 full, 4 collapsed, 5 shortcut"
-abbrev pub kindNumber : Span Tail → ℕ
-kindNumber (codeSpan q) = 1
-kindNumber (linkSpan o c (inline n d t)) = 2
-kindNumber (linkSpan o c (full n k)) = 3
-kindNumber (linkSpan o c (collapsed k)) = 4
-kindNumber (linkSpan o c (shortcut k)) = 5
 
 -- "A span runs from its opening bracket or backtick to the end of its tail or closing backticks."
 abbrev pub wholeOf : Span Tail → Range
 wholeOf (codeSpan q) = range (q .start) (q .end)
 wholeOf (linkSpan o c t) = range (o .start) (c .end + lengthOf t)
 
--- "For a code span the text lies between the backtick strings, for a link between its two brackets."
-abbrev pub textOf : List ℕ → Span Tail → Range
-textOf p (codeSpan q) = let n = run backtick (drop (q .start) p) in range (q .start + n) (q .end - n)
-textOf p (linkSpan o c t) = range (o .end) (c .start)
+-- "For a code span the text lies between the backtick strings": the second is as long as the first
+pub record CodeText (p : List ℕ) (q : Piece) (text : Range) : Type 0 where
+  pub count : ℕ
+  pub opening-string : Backticks p (q .start) count
+  pub from : text .start ≡ q .start + count
+  pub to : text .end + count ≡ q .end
+
+-- "for a link between its two brackets"
+abbrev pub linkText : Piece → Piece → Range
+linkText o c = range (o .end) (c .start)
 
 -- "places count from the note's start": the paragraph starts at place `offset` of the note
 abbrev pub fromNote : ℕ → Range → Range
@@ -46,7 +41,7 @@ fromNote? offset (some r) = fromNote offset r
 
 -- what a row says of a link's definition and target
 pub record Target : Type 0 where
-  -- "definition number (from 1; 0 if none)"
+  -- 0 if there is no definition
   pub number : ℕ
   pub destination : Range
   pub title : Range
@@ -55,7 +50,7 @@ pub record Target : Type 0 where
 abbrev pub defined : List Definition → ℕ → Target
 defined ds k =
     let d : Definition = getD ds k (record { label = absent; destination = absent; title = absent }) in
-    record { number = k + 1; destination = d .destination; title = d .title }
+    record { number = definitionNumber k; destination = d .destination; title = d .title }
 
 abbrev pub targetOf : ℕ → List Definition → Span Tail → Target
 targetOf offset ds (codeSpan q) = record { number = 0; destination = absent; title = absent }
@@ -64,33 +59,30 @@ targetOf offset ds (linkSpan o c (full n k)) = defined ds k
 targetOf offset ds (linkSpan o c (collapsed k)) = defined ds k
 targetOf offset ds (linkSpan o c (shortcut k)) = defined ds k
 
--- "kind, start, end, text start, text end, definition number .., destination start and end, title start and end"
-abbrev pub numbers : ℕ → Range → Range → Target → List ℕ
-numbers kind whole text t =
-    kind
-    ∷ whole .start
-    ∷ whole .end
-    ∷ text .start
-    ∷ text .end
-    ∷ t .number
-    ∷ t .destination .start
-    ∷ t .destination .end
-    ∷ t .title .start
-    ∷ t .title .end
-    ∷ []
+-- The row that document 01 makes of a code span or a link of the paragraph p, at place `offset` of a note whose definitions are ds
+module _ (offset : ℕ) (p : List ℕ) (ds : List Definition) where
+  abbrev placed : Span Tail → Range
+  placed x = fromNote offset (wholeOf x)
 
-abbrev pub spanRow : ℕ → List ℕ → List Definition → Span Tail → List ℕ
-spanRow offset p ds x = numbers (kindNumber x) (fromNote offset (wholeOf x)) (fromNote offset (textOf p x)) (targetOf offset ds x)
+  abbrev between : Piece → Piece → Range
+  between o c = fromNote offset (linkText o c)
+
+  pub data RowIs : Span Tail → List ℕ → Type 0 where
+    code-span : {q : Piece} {text : Range} → CodeText p q text → RowIs (codeSpan q) (numbers (codeSpanRow (placed (codeSpan q)) (fromNote offset text)))
+    inline-link : {o c : Piece} {n : ℕ} {d t : Option Range}
+        → RowIs (linkSpan o c (inline n d t)) (numbers (inlineRow (placed (linkSpan o c (inline n d t))) (between o c) (fromNote? offset d) (fromNote? offset t)))
+    full-reference : {o c : Piece} {n k : ℕ}
+        → RowIs (linkSpan o c (full n k)) (numbers (fullRow (placed (linkSpan o c (full n k))) (between o c) k (defined ds k .destination) (defined ds k .title)))
+    collapsed-reference : {o c : Piece} {k : ℕ}
+        → RowIs (linkSpan o c (collapsed k)) (numbers (collapsedRow (placed (linkSpan o c (collapsed k))) (between o c) k (defined ds k .destination) (defined ds k .title)))
+    shortcut-reference : {o c : Piece} {k : ℕ}
+        → RowIs (linkSpan o c (shortcut k)) (numbers (shortcutRow (placed (linkSpan o c (shortcut k))) (between o c) k (defined ds k .destination) (defined ds k .title)))
 
 -- "the rows that this section makes of the links and code spans in the markings": the rows of a paragraph at place `offset`
 pub record RowsAre (offset : ℕ) (p : List ℕ) (labels : List (List ℕ)) (ds : List Definition) (m : Marking Tail) (rows : List (List ℕ)) : Type 0 where
   pub spans : List (Span Tail)
   pub are : SpansAre (rules p labels) m spans
-  pub made : rows ≡ map (spanRow offset p ds) spans
-
--- the rows by the reading
-abbrev pub spanRows : ℕ → List ℕ → List (List ℕ) → List Definition → List (List ℕ)
-spanRows offset p labels ds = map (spanRow offset p ds) (spans (grammar p labels))
+  pub made : Forall₂ (RowIs offset p ds) spans rows
 
 -- ---- what is claimed of rows
 abbrev pub rowEnd : List ℕ → ℕ

@@ -20,7 +20,7 @@ use Rattle.inline.specs.CodeSpan.{countAfter, runStep, runDone, closingR
 use Rattle.inline.specs.Start.{pieceFrom}
 use Rattle.inline.specs.Inline.{closedAt, afterDestination, inlineOf}
 use Rattle.inline.specs.References.{labelAfter, textTail, tailOf}
-use Rattle.inline.specs.Rows.{spanRows}
+use Rattle.inline.specs.ReadingRows.{spanRows}
 
 -- a paragraph at place 1000 of the note, the labels of the definitions, and the rows
 pub record Sample : Type 0 where

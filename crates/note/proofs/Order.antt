@@ -16,7 +16,7 @@ use Rattle.block.specs.Block.{Placed}
 use Rattle.row.specs.declared.Definition.{Definition}
 use Rattle.definition.specs.Reading.{definitions}
 use Rattle.definition.proofs.NotePlaces.{Ordered, done, next, paragraphs-in-order}
-use Rattle.inline.specs.Rows as paragraph
+use Rattle.inline.specs.ReadingRows as paragraph
 use Rattle.inline.specs.Rows.{rowEnd, EndsIncrease}
 use Rattle.inline.proofs.SpanRows.{ends-increase}
 use Rattle.note.specs.Reading.{labels, rowsIn, spanRows}

@@ -14,8 +14,9 @@ use Rattle.row.specs.First.{bytesOf, labelsOf}
 use Rattle.definition.specs.Reading.{definitions}
 use Rattle.definition.proofs.NotePlaces.{Inside, Ordered, done, next, paragraphs-in-order}
 use Rattle.inline.specs.Tails.{Tail}
-use Rattle.inline.specs.Rows.{spanRow, RowWithin}
-use Rattle.inline.proofs.SpanRows.{row-within}
+use Rattle.inline.specs.Rows.{RowWithin}
+use Rattle.inline.specs.ReadingRows.{spanRow}
+use Rattle.inline.proofs.SpanRows.{row-read, row-within}
 use Rattle.note.specs.Note.{MarkingOf}
 use Rattle.note.specs.Reading.{spanRows}
 use Rattle.note.proofs.Members.{pair-at}
@@ -42,7 +43,8 @@ from-span s row i =
     let r = in-rows-iff s (marked s) row .0 i in
     let q = r .paragraph in
     let c : MarkingOf s (definitions s) q (r .marking) = pair-at (marked s .each) (r .index) q (r .marking) (r .paragraph-at) (r .marking-at) in
-    let (k, e) = in-here s (definitions s) row q (r .marking) c (r .span) (r .of-marking) (r .row-is) in
+    let is : spanRow (q .at) (q .bytes) (definitions s) (r .span) ≡ row = row-read (q .at) (q .bytes) (definitions s) (r .row-is) in
+    let (k, e) = in-here s (definitions s) row q (r .marking) c (r .span) (r .of-marking) is in
     record {
       paragraph = q;
       inside = each-inside (paragraphs-in-order s) (r .index) q (r .paragraph-at);
@@ -50,7 +52,7 @@ from-span s row i =
       meets = c;
       span = r .span;
       of-marking = r .of-marking;
-      row-is = r .row-is;
+      row-is = is;
       within = row-within (q .at) (q .bytes) (labelsOf s (definitions s)) (definitions s) k row e;
     }
 

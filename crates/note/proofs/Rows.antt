@@ -15,9 +15,10 @@ use Rattle.row.specs.First.{labelsOf}
 use Rattle.definition.proofs.Notes.{note-iff}
 use Rattle.inline.specs.Tails.{Tail}
 use Rattle.inline.specs.Grammar.{grammar}
-use Rattle.inline.specs.Rows as paragraph
-use Rattle.inline.specs.Rows.{spanRow}
+use Rattle.inline.specs.ReadingRows as paragraph
+use Rattle.inline.specs.ReadingRows.{spanRow}
 use Rattle.inline.proofs.Demand3.{its-spans-are-read}
+use Rattle.inline.proofs.SpanRows.{row-read, row-iff}
 use Rattle.note.specs.Note.{MarkingOf, MarkingsAre, Marked, RowOf}
 use Rattle.note.specs.Reading.{labels, rowsIn, spanRows}
 use Rattle.note.proofs.Members.{in-mapped, mapped-in, in-either, in-front, in-back, pair-at}
@@ -30,6 +31,7 @@ module _ (s : List ℕ) (ds : List Definition) (row : List ℕ) where
   row-here : (q : Placed) (ps : List Placed) (m : Marking Tail) (ms : List (Marking Tail)) → MarkingOf s ds q m → In row (here q) → RowOf ds (q ∷ ps) (m ∷ ms) row
   row-here q ps m ms c h =
       let found = in-mapped (spanRow (q .at) (q .bytes) ds) (spans (grammar (q .bytes) (labelsOf s ds))) row h in
+      let of : SpanOf m (found .from) = its-spans-are-read (q .bytes) (labelsOf s ds) m c .no-others (found .from) (found .there) in
       record {
         index = 0;
         paragraph = q;
@@ -37,8 +39,8 @@ module _ (s : List ℕ) (ds : List Definition) (row : List ℕ) where
         marking = m;
         marking-at = refl;
         span = found .from;
-        of-marking = its-spans-are-read (q .bytes) (labelsOf s ds) m c .no-others (found .from) (found .there);
-        row-is = found .is;
+        of-marking = of;
+        row-is = row-iff (q .bytes) (labelsOf s ds) m c (q .at) ds (found .from) of row .1 (found .is);
       }
 
   row-later : (q : Placed) {ps : List Placed} (m : Marking Tail) {ms : List (Marking Tail)} → RowOf ds ps ms row → RowOf ds (q ∷ ps) (m ∷ ms) row
@@ -83,5 +85,6 @@ module _ (s : List ℕ) (n : Marked s) (row : List ℕ) where
         (λ h. rows-of s (n .definitions) row (n .each) (rw (d, p) at h)),
         (λ r. rw (d, p)
             (rows-in s (n .definitions) row (n .each) (r .index) (r .paragraph) (r .marking) (r .paragraph-at) (r .marking-at)
-            (in-here s (n .definitions) row (r .paragraph) (r .marking) (pair-at (n .each) (r .index) (r .paragraph) (r .marking) (r .paragraph-at) (r .marking-at)) (r .span) (r .of-marking) (r .row-is)))),
+            (in-here s (n .definitions) row (r .paragraph) (r .marking) (pair-at (n .each) (r .index) (r .paragraph) (r .marking) (r .paragraph-at) (r .marking-at)) (r .span) (r .of-marking)
+            (row-read (r .paragraph .at) (r .paragraph .bytes) (n .definitions) (r .row-is))))),
       )

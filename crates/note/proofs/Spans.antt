@@ -16,7 +16,8 @@ use Rattle.inline.specs.Pieces.{Starts, an-escape, code-span, backticks, openin
 use Rattle.inline.specs.Tails.{Tail, TailOf}
 use Rattle.inline.specs.Paragraph.{rules}
 use Rattle.inline.specs.Grammar.{grammar}
-use Rattle.inline.specs.Rows.{spanRow, spanRows, rowEnd, RowWithin}
+use Rattle.inline.specs.Rows.{rowEnd, RowWithin}
+use Rattle.inline.specs.ReadingRows.{spanRow, spanRows}
 use Rattle.inline.proofs.Demand3.{the-marking, the-marking-meets, its-spans-are-read}
 use Rattle.inline.proofs.SpanRows.{row-within}
 use Rattle.note.proofs.Members.{in-mapped}

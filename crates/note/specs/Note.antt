@@ -13,7 +13,7 @@ use Rattle.row.specs.First.{labelsOf}
 use Rattle.definition.specs.Note.{NoteIs}
 use Rattle.inline.specs.Tails.{Tail}
 use Rattle.inline.specs.Paragraph.{rules}
-use Rattle.inline.specs.Rows.{spanRow, RowsAre, EndsIncrease}
+use Rattle.inline.specs.Rows.{RowIs, RowsAre, EndsIncrease}
 
 -- "some paragraph has over 64 brackets open at once"
 abbrev pub depthLimit : ℕ
@@ -57,7 +57,7 @@ pub record RowOf (ds : List Definition) (ps : List Placed) (ms : List (Marking T
   pub marking-at : getElem? ms index ≡ some marking
   pub span : Span Tail
   pub of-marking : SpanOf marking span
-  pub row-is : spanRow (paragraph .at) (paragraph .bytes) ds span ≡ row
+  pub row-is : RowIs (paragraph .at) (paragraph .bytes) ds span row
 
 -- The same rows with no word of paragraph after paragraph: those "of the links and code spans in the markings", all of them and nothing else.
 -- "Rows stand in increasing order of end", so that each stands there once.

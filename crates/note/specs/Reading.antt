@@ -8,7 +8,7 @@ use Rattle.row.specs.declared.Definition.{Definition}
 use Rattle.row.specs.First.{labelsOf}
 use Rattle.definition.specs.Reading.{definitions, paragraphs}
 use Rattle.inline.specs.Grammar.{grammar}
-use Rattle.inline.specs.Rows as paragraph
+use Rattle.inline.specs.ReadingRows as paragraph
 use Rattle.note.specs.Note.{depthLimit}
 
 -- the labels of the note's definitions, as bytes

@@ -11,8 +11,8 @@ use Rattle.span.specs.declared.Span.{Span}
 use Rattle.span.specs.Row.{numbers, wholeRows, filled}
 use Rattle.span.proofs.Filled.{store-next}
 use Rattle.inline.specs.Tails.{Tail}
-use Rattle.inline.specs.Rows.{spanRow}
-use Rattle.paragraph.specs.Rows.{rowFor, storedAll}
+use Rattle.inline.specs.ReadingRows.{rowFor, spanRow}
+use Rattle.paragraph.specs.Rows.{storedAll}
 use Rattle.notice.specs.Reader.{spanNumbers, spansFilled}
 
 pub store-all : (t₀ : List ℕ) (passed xs : List Span) {t : List ℕ} {k : ℕ} → t ≡ filled passed t₀ → k ≡ length passed → storedAll t k xs ≡ filled (passed ++ xs) t₀

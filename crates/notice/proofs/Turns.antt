@@ -20,7 +20,7 @@ use Rattle.span.specs.declared.Span.{Span}
 use Rattle.span.specs.Row.{numbers, filled}
 use Rattle.span.proofs.Filled.{filled-none, length-filled}
 use Rattle.inline.specs.Grammar.{grammar}
-use Rattle.inline.specs.Rows.{spanRow}
+use Rattle.inline.specs.ReadingRows.{spanRow}
 use Rattle.note.specs.Reading.{labels, rowsIn, spanRows, deepIn, firstDeep}
 use Rattle.note.proofs.Bracket.{first-deep-bracket}
 use Rattle.paragraph.specs.declared.Marked.{Marked}

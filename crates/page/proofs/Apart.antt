@@ -17,7 +17,8 @@ use Rattle.row.specs.declared.Definition.{Definition}
 use Rattle.row.specs.First.{labelsOf}
 use Rattle.definition.proofs.NotePlaces.{Ordered, done, next}
 use Rattle.inline.specs.Tails.{Tail, lengthOf}
-use Rattle.inline.specs.Rows.{wholeOf, spanRow, rowEnd}
+use Rattle.inline.specs.Rows.{wholeOf, rowEnd}
+use Rattle.inline.specs.ReadingRows.{spanRow}
 use Rattle.inline.proofs.SpanBounds.{span-within}
 use Rattle.inline.proofs.Demand3.{links-stand-apart}
 use Rattle.note.specs.Note.{MarkingOf, Marked, RowOf}
@@ -27,7 +28,7 @@ use Rattle.note.proofs.Rows.{in-rows-iff}
 use Rattle.note.proofs.Order.{later-ends-later}
 use Rattle.page.specs.Reading.{isCode, rowStart}
 use Rattle.page.proofs.Pieces.{grows, opening-role, link-is-no-code, one-link}
-use Rattle.page.proofs.Here.{starts-after, in-order, marking-of, row-of}
+use Rattle.page.proofs.Here.{read, starts-after, in-order, marking-of, row-of}
 
 module _ (s : List ℕ) (ds : List Definition) (q : Placed) (m : Marking Tail) (c : MarkingOf s ds q m) where
   codes-apart : (x y : Piece) → CodeOf m x → CodeOf m y → x .end < y .end → x .end ≤ y .start
@@ -104,8 +105,8 @@ module _ (s : List ℕ) where
   row-reaches row r =
       let c = marking-of s n (r .index) (r .paragraph) (r .marking) (r .paragraph-at) (r .marking-at) in
       let w = span-within (r .paragraph .bytes) (labelsOf s (n .definitions)) (r .marking) c (r .span) (r .of-marking) in
-      let st : r .paragraph .at + wholeOf (r .span) .start ≡ rowStart row = ap rowStart (r .row-is) in
-      let en : r .paragraph .at + wholeOf (r .span) .end ≡ rowEnd row = ap rowEnd (r .row-is) in
+      let st : r .paragraph .at + wholeOf (r .span) .start ≡ rowStart row = ap rowStart (read s n row r) in
+      let en : r .paragraph .at + wholeOf (r .span) .end ≡ rowEnd row = ap rowEnd (read s n row r) in
       (omega arith, omega (arith, w .text-from, w .text-ordered, w .text-to), omega (arith, w .to))
 
   pub rows-apart : (i j : ℕ) (x y : List ℕ) → i < j → getElem? (spanRows s) i ≡ some x → getElem? (spanRows s) j ≡ some y → isCode x ≡ isCode y → rowEnd x ≤ rowStart y
@@ -125,10 +126,10 @@ module _ (s : List ℕ) where
           let c = marking-of s n (a .index) (a .paragraph) (a .marking) (a .paragraph-at) (a .marking-at) in
           let g = row-of s n (a .index) (a .paragraph) (a .marking) (a .paragraph-at) (a .marking-at) y b (omega arith) in
           let at = a .paragraph .at in
-          let ex : at + wholeOf (a .span) .end ≡ rowEnd x = ap rowEnd (a .row-is) in
+          let ex : at + wholeOf (a .span) .end ≡ rowEnd x = ap rowEnd (read s n x a) in
           let ey : at + wholeOf (g .span) .end ≡ rowEnd y = ap rowEnd (g .row-is) in
           let sy : at + wholeOf (g .span) .start ≡ rowStart y = ap rowStart (g .row-is) in
           omega (
             arith,
-            spans-apart s (n .definitions) (a .paragraph) (a .marking) c (a .span) (g .span) (a .of-marking) (g .of-marking) (ap isCode (a .row-is) ∙ k ∙ sym (ap isCode (g .row-is))) (omega arith),
+            spans-apart s (n .definitions) (a .paragraph) (a .marking) c (a .span) (g .span) (a .of-marking) (g .of-marking) (ap isCode (read s n x a) ∙ k ∙ sym (ap isCode (g .row-is))) (omega arith),
           )

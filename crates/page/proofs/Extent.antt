@@ -10,7 +10,8 @@ use Rattle.block.specs.Block.{Placed}
 use Rattle.row.specs.declared.Definition.{Definition}
 use Rattle.row.specs.First.{labelsOf}
 use Rattle.inline.specs.Tails.{Tail}
-use Rattle.inline.specs.Rows.{spanRow, rowEnd}
+use Rattle.inline.specs.Rows.{rowEnd}
+use Rattle.inline.specs.ReadingRows.{spanRow}
 use Rattle.inline.proofs.SpanBounds.{span-within}
 use Rattle.note.specs.Note.{MarkingOf}
 use Rattle.note.specs.Reading.{spanRows}
@@ -18,7 +19,7 @@ use Rattle.note.proofs.Markings.{marked}
 use Rattle.note.proofs.Rows.{in-rows-iff}
 use Rattle.note.proofs.Spans.{link-read, code-some}
 use Rattle.page.specs.Reading.{isCode, rowStart, textEnd}
-use Rattle.page.proofs.Here.{marking-of}
+use Rattle.page.proofs.Here.{marking-of, read}
 
 module _ (s : List ℕ) (ds : List Definition) (q : Placed) (m : Marking Tail) (c : MarkingOf s ds q m) where
   span-some : (x : Span Tail) → SpanOf m x → rowStart (spanRow (q .at) (q .bytes) ds x) < rowEnd (spanRow (q .at) (q .bytes) ds x)
@@ -41,11 +42,11 @@ module _ (s : List ℕ) where
   row-some row i =
       let r = in-rows-iff s (marked s) row .0 i in
       let c = marking-of s (marked s) (r .index) (r .paragraph) (r .marking) (r .paragraph-at) (r .marking-at) in
-      subst (λ (x : List ℕ). rowStart x < rowEnd x) (r .row-is) (span-some s (marked s .definitions) (r .paragraph) (r .marking) c (r .span) (r .of-marking))
+      subst (λ (x : List ℕ). rowStart x < rowEnd x) (read s (marked s) row r) (span-some s (marked s .definitions) (r .paragraph) (r .marking) c (r .span) (r .of-marking))
 
   pub link-text : (row : List ℕ) → In row (spanRows s) → isCode row ≡ false → (rowStart row < textEnd row) × (textEnd row < rowEnd row)
   link-text row i e =
       let r = in-rows-iff s (marked s) row .0 i in
       let c = marking-of s (marked s) (r .index) (r .paragraph) (r .marking) (r .paragraph-at) (r .marking-at) in
-      subst (λ (x : List ℕ). (rowStart x < textEnd x) × (textEnd x < rowEnd x)) (r .row-is)
-      (link-ends s (marked s .definitions) (r .paragraph) (r .marking) c (r .span) (r .of-marking) (ap isCode (r .row-is) ∙ e))
+      subst (λ (x : List ℕ). (rowStart x < textEnd x) × (textEnd x < rowEnd x)) (read s (marked s) row r)
+      (link-ends s (marked s .definitions) (r .paragraph) (r .marking) c (r .span) (r .of-marking) (ap isCode (read s (marked s) row r) ∙ e))

@@ -12,10 +12,12 @@ use Rattle.marking.specs.Spans.{Span, codeSpan, linkSpan, SpanOf}
 use Rattle.marking.proofs.Roles.{nothing≢trailing, opening≢trailing, closing≢trailing}
 use Rattle.block.specs.Block.{Placed}
 use Rattle.row.specs.declared.Definition.{Definition}
+use Rattle.row.specs.First.{labelsOf}
 use Rattle.definition.proofs.Notes.{note-iff}
 use Rattle.definition.proofs.NotePlaces.{Ordered, done, next, paragraphs-in-order}
 use Rattle.inline.specs.Tails.{Tail}
-use Rattle.inline.specs.Rows.{spanRow}
+use Rattle.inline.specs.ReadingRows.{spanRow}
+use Rattle.inline.proofs.SpanRows.{row-read, row-iff}
 use Rattle.note.specs.Note.{MarkingOf, Marked, RowOf}
 use Rattle.note.specs.Reading.{spanRows}
 use Rattle.note.proofs.Members.{pair-at}
@@ -61,6 +63,10 @@ module _ (s : List ℕ) (n : Marked s) where
   pub marking-of : (k : ℕ) (q : Placed) (m : Marking Tail) → getElem? (n .paragraphs) k ≡ some q → getElem? (n .markings) k ≡ some m → MarkingOf s (n .definitions) q m
   marking-of k q m e d = pair-at (n .each) k q m e d
 
+  -- the row of a span as it is read
+  pub read : (row : List ℕ) (r : RowOf (n .definitions) (n .paragraphs) (n .markings) row) → spanRow (r .paragraph .at) (r .paragraph .bytes) (n .definitions) (r .span) ≡ row
+  read row r = row-read (r .paragraph .at) (r .paragraph .bytes) (n .definitions) (r .row-is)
+
   module _ (k : ℕ) (q : Placed) (m : Marking Tail) (e : getElem? (n .paragraphs) k ≡ some q) (d : getElem? (n .markings) k ≡ some m) where
     -- a row whose paragraph has the index k
     pub row-of : (row : List ℕ) (r : RowOf (n .definitions) (n .paragraphs) (n .markings) row) → r .index ≡ k → RowHere (n .definitions) q m row
@@ -70,7 +76,7 @@ module _ (s : List ℕ) (n : Marked s) where
         record {
           span = r .span;
           of-marking = subst (λ (y : Marking Tail). SpanOf y (r .span)) b (r .of-marking);
-          row-is = ap (λ (y : Placed). spanRow (y .at) (y .bytes) (n .definitions) (r .span)) (sym a) ∙ r .row-is;
+          row-is = ap (λ (y : Placed). spanRow (y .at) (y .bytes) (n .definitions) (r .span)) (sym a) ∙ read row r;
         }
 
     pub rows-here : RowsHere (n .definitions) q m (spanRows s)
@@ -78,17 +84,26 @@ module _ (s : List ℕ) (n : Marked s) where
         record {
           each = λ x o.
               in-rows-iff s n (spanRow (q .at) (q .bytes) (n .definitions) x) .1
-              (record { index = k; paragraph = q; paragraph-at = e; marking = m; marking-at = d; span = x; of-marking = o; row-is = refl });
+              (record {
+                index = k;
+                paragraph = q;
+                paragraph-at = e;
+                marking = m;
+                marking-at = d;
+                span = x;
+                of-marking = o;
+                row-is = row-iff (q .bytes) (labelsOf s (n .definitions)) m (marking-of k q m e d) (q .at) (n .definitions) x o _ .1 refl;
+              });
           starting = λ row h i l z.
               let r = in-rows-iff s n row .0 h in
               let (j, y, t) = span-starts s (n .definitions) (r .paragraph) (r .marking) (marking-of (r .index) (r .paragraph) (r .marking) (r .paragraph-at) (r .marking-at)) (r .span) (r .of-marking) in
-              let place : r .paragraph .at + j ≡ q .at + i = sym t ∙ ap rowStart (r .row-is) ∙ z in
+              let place : r .paragraph .at + j ≡ q .at + i = sym t ∙ ap rowStart (read row r) ∙ z in
               row-of row r (same-paragraph in-order (r .index) k (r .paragraph) q (r .paragraph-at) e j i y l place);
           closing = λ row h code i l z.
               let r = in-rows-iff s n row .0 h in
               let (j, y, t) =
               link-closes s (n .definitions) (r .paragraph) (r .marking) (marking-of (r .index) (r .paragraph) (r .marking) (r .paragraph-at) (r .marking-at)) (r .span) (r .of-marking)
-              (ap isCode (r .row-is) ∙ code) in
-              let place : r .paragraph .at + j ≡ q .at + i = sym t ∙ ap textEnd (r .row-is) ∙ z in
+              (ap isCode (read row r) ∙ code) in
+              let place : r .paragraph .at + j ≡ q .at + i = sym t ∙ ap textEnd (read row r) ∙ z in
               row-of row r (same-paragraph in-order (r .index) k (r .paragraph) q (r .paragraph-at) e j i y l place);
         }

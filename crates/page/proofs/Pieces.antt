@@ -20,7 +20,7 @@ use Rattle.row.specs.declared.Definition.{Definition}
 use Rattle.row.specs.First.{labelsOf}
 use Rattle.inline.specs.PieceBounds.{sized}
 use Rattle.inline.specs.Tails.{Tail, inline, full, collapsed, shortcut}
-use Rattle.inline.specs.Rows.{spanRow}
+use Rattle.inline.specs.ReadingRows.{spanRow}
 use Rattle.inline.proofs.Starting.{starts-iff}
 use Rattle.inline.proofs.Demand3.{every-bracket-in-one-pair-at-most}
 use Rattle.note.specs.Note.{MarkingOf}

@@ -22,7 +22,8 @@ use Rattle.row.specs.First.{bytesOf, labelsOf}
 use Rattle.definition.proofs.NotePlaces.{Inside}
 use Rattle.inline.specs.Pieces.{Starts, an-escape, code-span, backticks, opening as opens, closing as closes, other, Backticks}
 use Rattle.inline.specs.Tails.{Tail, lengthOf}
-use Rattle.inline.specs.Rows.{textOf, spanRow, rowEnd}
+use Rattle.inline.specs.Rows.{rowEnd}
+use Rattle.inline.specs.ReadingRows.{textOf, spanRow}
 use Rattle.inline.specs.PieceBounds.{sized}
 use Rattle.inline.proofs.Ticks.{ticks-in}
 use Rattle.inline.proofs.Starting.{starts-iff}

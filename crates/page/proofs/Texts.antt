@@ -10,11 +10,13 @@ use Rattle.marking.specs.Marking.{Kind, escape, code, plain, opens, closes, tai
 use Rattle.marking.specs.Spans.{codeSpan, linkSpan, LinkOf}
 use Rattle.marking.proofs.Roles.{opening≢trailing, closing≢trailing}
 use Rattle.block.specs.Block.{Placed}
+use Rattle.row.specs.declared.Range.{Range}
 use Rattle.row.specs.declared.Definition.{Definition}
 use Rattle.row.specs.Row.{range}
-use Rattle.row.specs.First.{bytesOf}
+use Rattle.row.specs.First.{bytesOf, labelsOf}
 use Rattle.inline.specs.Tails.{Tail}
-use Rattle.inline.specs.Rows.{textOf, spanRow}
+use Rattle.inline.specs.ReadingRows.{textOf, spanRow}
+use Rattle.inline.proofs.SpanRows.{code-text-read, code-text-is}
 use Rattle.note.specs.Note.{MarkingOf}
 use Rattle.html.specs.Page.{escaped, linkClose}
 use Rattle.html.specs.Reading as html
@@ -72,7 +74,8 @@ module _ (s : List ℕ) (ds : List Definition) (q : Placed) (m : Marking Tail) (
     text-by-law : (d : Kind) → x .kind ≡ d → PieceIs s ds q m x (textBy s rows q d x)
     text-by-law escape e = law.escape e
     text-by-law plain e = law.text e
-    text-by-law code e = law.code-span e (code-span-iff _ _ .1 refl)
+    text-by-law code e =
+        law.code-span e (code-text-is (q .bytes) (labelsOf s ds) m c x (record { index = k; at = a; is-code = e })) (code-span-iff _ _ .1 refl)
     text-by-law opens e = open-law e _ refl
     text-by-law closes e = close-law e _ refl
     text-by-law tail e = law.tail e
@@ -114,7 +117,8 @@ module _ (s : List ℕ) (ds : List Definition) (q : Placed) (m : Marking Tail) (
     pub text-only : {w : List ℕ} → PieceIs s ds q m x w → pieceText s rows q x ≡ w
     text-only (law.escape e) = as-kind escape e
     text-only (law.text e) = as-kind plain e
-    text-only {w} (law.code-span e p) = as-kind code e ∙ code-span-iff _ w .0 p
+    text-only {w} (law.code-span {text = t} e l p) =
+        as-kind code e ∙ ap (λ (y : Range). html.codeSpan (bytesOf (q .bytes) y)) (code-text-read (q .bytes) x t l) ∙ code-span-iff (bytesOf (q .bytes) t) w .0 p
     text-only {w} (law.link-opening {c = d} {t = t} l p) =
         as-kind opens (opens-kind (x .kind) (opening-role s ds q m c x d t l)) ∙ open-only d t l _ refl ∙ link-open-iff _ (some _) w .0 p
     text-only (law.link-closing {o = o} {t = t} l) = as-kind closes (closes-kind (x .kind) (closing-role s ds q m c o x t l)) ∙ close-only o t l _ refl

@@ -6,13 +6,14 @@ use mathlib.Core.List.{List, [], _∷_, _++_, flatMap}
 use lib.ListN.{getD}
 use Rattle.marking.specs.Marking.{Piece, Marking}
 use Rattle.marking.specs.Marking as kinds
-use Rattle.marking.specs.Spans.{codeSpan, linkSpan, LinkOf}
+use Rattle.marking.specs.Spans.{linkSpan, LinkOf}
 use Rattle.block.specs.Block.{Placed}
+use Rattle.row.specs.declared.Range.{Range}
 use Rattle.row.specs.declared.Definition.{Definition}
 use Rattle.row.specs.Row.{range}
 use Rattle.row.specs.First.{bytesOf}
 use Rattle.inline.specs.Tails.{Tail}
-use Rattle.inline.specs.Rows.{Target, textOf, targetOf}
+use Rattle.inline.specs.Rows.{CodeText, Target, targetOf}
 use Rattle.note.specs.Note.{Marked}
 use Rattle.html.specs.Page.{escaped, CodeSpan, LinkOpen, linkClose, paragraphOpen, paragraphClose}
 
@@ -29,7 +30,7 @@ module _ (s : List ℕ) (ds : List Definition) (q : Placed) (m : Marking Tail) w
     -- "`&`, `<`, `>`, `"` become `&amp;`, `&lt;`, `&gt;`, `&quot;` in text"
     text : {x : Piece} → x .kind ≡ kinds.plain → PieceIs x (flatMap escaped (bytesOf (q .bytes) (range (x .start) (x .end))))
     -- "Code: `<code>`, content, `</code>`"
-    code-span : {x : Piece} {w : List ℕ} → x .kind ≡ kinds.code → CodeSpan (bytesOf (q .bytes) (textOf (q .bytes) (codeSpan x))) w → PieceIs x w
+    code-span : {x : Piece} {text : Range} {w : List ℕ} → x .kind ≡ kinds.code → CodeText (q .bytes) x text → CodeSpan (bytesOf (q .bytes) text) w → PieceIs x w
     -- "Links: `<a href="D" title="T">text</a>`": for the opening bracket of a link its tag, for the closing bracket `</a>`.
     -- An absent title is the part 0, 0, so that it is empty.
     link-opening : {x c : Piece} {t : Tail} {w : List ℕ} → LinkOf m x c t

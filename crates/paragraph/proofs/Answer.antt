@@ -18,10 +18,10 @@ use Rattle.span.proofs.Filled.{store-next}
 use Rattle.inline.specs.Tails.{Tail}
 use Rattle.inline.specs.Paragraph.{rules}
 use Rattle.inline.specs.Grammar.{grammar}
-use Rattle.inline.specs.Rows.{spanRow, spanRows}
+use Rattle.inline.specs.ReadingRows.{rowFor, spanRow, spanRows}
 use Rattle.inline.proofs.Demand3.{first-bracket-too-many, never-too-many}
 use Rattle.inline.proofs.SpanRows.{rows-are-read}
-use Rattle.paragraph.specs.Rows.{rowFor, rowsFor, storedAll}
+use Rattle.paragraph.specs.Rows.{rowsFor, storedAll}
 use Rattle.paragraph.specs.Walk.{markedBy, Reads}
 use Rattle.paragraph.specs.Claims.{SpansRead}
 use Rattle.paragraph.specs.declared.Marked.{Marked}

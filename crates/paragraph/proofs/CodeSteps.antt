@@ -19,7 +19,7 @@ use Rattle.inline.specs.Pieces.{backtick}
 use Rattle.inline.specs.CodeSpan.{closingRun}
 use Rattle.inline.specs.Start.{piece, spanOrText, ticked, pieceFrom, from-backticks}
 use Rattle.inline.specs.PieceBounds.{closingRun-within, run-fits}
-use Rattle.paragraph.specs.Rows.{rowFor}
+use Rattle.inline.specs.ReadingRows.{rowFor}
 use Rattle.paragraph.specs.Walk.{BacktickAt}
 use Rattle.paragraph.specs.declared.Walk.{Walk}
 use Rattle.paragraph.proofs.Pieces.{no-escape}
@@ -57,7 +57,7 @@ module _ (p : List ℕ) (w : Walk) (b : BacktickAt p w) (first : ℕ) (ea : firs
       pub code-ends : (first ≤ e) × (e ≤ length p)
       code-ends = let l = closingRun-within n (drop first p) first e (sym ef ∙ q) in omega (arith, first-inside, length-drop first p)
 
-      module _ (start : ℕ) {r : Span} {whole text : Range} (er : r ≡ row.codeSpan whole text) (ew : whole ≡ range (start + w .at) (start + e))
+      module _ (start : ℕ) {r : Span} {whole text : Range} (er : r ≡ row.codeSpanRow whole text) (ew : whole ≡ range (start + w .at) (start + e))
           (ex : text ≡ range (start + first) (start + (e - n))) where
         pub code-row : (ds : List Definition) → r ≡ rowFor start p ds (codeSpan (piece code (w .at) e))
         code-row ds =

@@ -16,7 +16,8 @@ use Rattle.span.specs.Row.{span, Small}
 use Rattle.inline.specs.Tails as told
 use Rattle.inline.specs.Start.{piece}
 use Rattle.inline.specs.References.{moved}
-use Rattle.inline.specs.Rows.{Target, kindNumber, fromNote?, defined, targetOf}
+use Rattle.inline.specs.Rows.{Target, fromNote?, defined, targetOf}
+use Rattle.inline.specs.ReadingRows.{kindNumber}
 use Rattle.paragraph.specs.Tail.{shown, Names}
 use Rattle.paragraph.specs.Rows.{linkRow}
 use Rattle.inline.specs.declared.InlineParts.{InlineParts}

@@ -21,7 +21,8 @@ use Rattle.span.specs.Row.{stored}
 use Rattle.inline.specs.Tails.{Tail}
 use Rattle.inline.specs.Start.{pieceFrom}
 use Rattle.inline.specs.Grammar.{grammar}
-use Rattle.paragraph.specs.Rows.{rowFor, storedAll}
+use Rattle.inline.specs.ReadingRows.{rowFor}
+use Rattle.paragraph.specs.Rows.{storedAll}
 use Rattle.paragraph.specs.Walk.{spansAt, Steps, Reads}
 use Rattle.paragraph.specs.declared.Walk.{Walk}
 use Rattle.paragraph.specs.declared.Marked.the-variants.{Spans}

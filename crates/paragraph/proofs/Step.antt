@@ -17,7 +17,8 @@ use Rattle.span.specs.Row.{stored}
 use Rattle.inline.specs.Tails.{Tail, lengthOf}
 use Rattle.inline.specs.Start.{piece, pieceFrom}
 use Rattle.inline.specs.Grammar.{grammar, tailAt}
-use Rattle.paragraph.specs.Rows.{rowFor, linkRow, storedAll}
+use Rattle.inline.specs.ReadingRows.{rowFor}
+use Rattle.paragraph.specs.Rows.{linkRow, storedAll}
 use Rattle.paragraph.specs.Walk.{spansAt, Steps, closing}
 use Rattle.paragraph.specs.declared.Walk.{Walk}
 use Rattle.paragraph.proofs.Pieces.{at-open, at-close}

@@ -6,18 +6,13 @@ use Rattle.marking.specs.Spans as marked
 use Rattle.marking.specs.Scan.{spans}
 use Rattle.row.specs.declared.Definition.{Definition}
 use Rattle.span.specs.declared.Span.{Span}
-use Rattle.span.specs.Row.{span, stored}
+use Rattle.span.specs.Row.{stored}
 use Rattle.inline.specs.Tails.{Tail}
 use Rattle.inline.specs.Start.{piece}
 use Rattle.inline.specs.Grammar.{grammar}
-use Rattle.inline.specs.Rows.{Target, kindNumber, wholeOf, textOf, fromNote, targetOf}
+use Rattle.inline.specs.ReadingRows.{rowFor}
 
--- the row of a span of the paragraph p, which starts at place `offset` of the note; ds are the definitions
-abbrev pub rowFor : ℕ → List ℕ → List Definition → marked.Span Tail → Span
-rowFor offset p ds x =
-    let t : Target = targetOf offset ds x in span (kindNumber x) (fromNote offset (wholeOf x)) (fromNote offset (textOf p x)) (t .number) (t .destination) (t .title)
-
--- of a link from its `[` at place o and its `]` at place c
+-- the row of a link from its `[` at place o and its `]` at place c
 abbrev pub linkRow : ℕ → List Definition → ℕ → ℕ → Tail → Span
 linkRow offset ds o c t = rowFor offset [] ds (marked.linkSpan (piece opens o (o + 1)) (piece closes c (c + 1)) t)
 

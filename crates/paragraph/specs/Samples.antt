@@ -6,15 +6,15 @@ use lib.ListN.{replicate}
 use Rattle.row.specs.Row.{range}
 use Rattle.rows.specs.Rows as rows
 use Rattle.span.specs.declared.Span.{Span}
-use Rattle.span.specs.Row.{numbers, codeSpan, shortcut}
+use Rattle.span.specs.Row.{numbers, codeSpanRow, shortcutRow}
 use Rattle.paragraph.specs.Rows.{storedAll}
 
 -- `Use [max].` at place 23, with the definition of the whole example; and a code span after it
 abbrev link : Span
-link = shortcut (range 27 32) (range 28 31) 0 (range 7 14) (range 16 20)
+link = shortcutRow (range 27 32) (range 28 31) 0 (range 7 14) (range 16 20)
 
 abbrev code : Span
-code = codeSpan (range 33 36) (range 34 35)
+code = codeSpanRow (range 33 36) (range 34 35)
 
 abbrev nines : ℕ → List ℕ
 nines n = replicate n 9

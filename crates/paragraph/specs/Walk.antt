@@ -11,7 +11,8 @@ use Rattle.marking.specs.Scan.{spans, over}
 use Rattle.row.specs.declared.Definition.{Definition}
 use Rattle.inline.specs.Tails.{Tail}
 use Rattle.inline.specs.Grammar.{grammar}
-use Rattle.paragraph.specs.Rows.{rowFor, rowsFor, storedAll}
+use Rattle.inline.specs.ReadingRows.{rowFor}
+use Rattle.paragraph.specs.Rows.{rowsFor, storedAll}
 use Rattle.paragraph.specs.declared.Walk.{Walk}
 use Rattle.paragraph.specs.declared.Marked.{Marked}
 use Rattle.paragraph.specs.declared.Marked.the-variants.{Deep, Spans}

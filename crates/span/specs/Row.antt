@@ -27,28 +27,46 @@ numbers s =
     ∷ s .title .end
     ∷ []
 
--- ---- the five kinds: "1 code span, 2 inline, 3 full, 4 collapsed, 5 shortcut"
+-- ---- the five kinds: "The five kinds of row have fixed numbers: 1 code span, 2 inline, 3 full, 4 collapsed, 5 shortcut."
+abbrev pub codeSpanKind : ℕ
+codeSpanKind = 1
+
+abbrev pub inlineKind : ℕ
+inlineKind = 2
+
+abbrev pub fullKind : ℕ
+fullKind = 3
+
+abbrev pub collapsedKind : ℕ
+collapsedKind = 4
+
+abbrev pub shortcutKind : ℕ
+shortcutKind = 5
+
 abbrev pub span : ℕ → Range → Range → ℕ → Range → Range → Span
 span k w x n d t = record { kind = k; whole = w; text = x; definition = n; destination = d; title = t }
 
-abbrev pub codeSpan : Range → Range → Span
-codeSpan whole text = span 1 whole text 0 absent absent
+abbrev pub codeSpanRow : Range → Range → Span
+codeSpanRow whole text = span codeSpanKind whole text 0 absent absent
 
-abbrev pub inline : Range → Range → Range → Range → Span
-inline whole text destination title = span 2 whole text 0 destination title
+abbrev pub inlineRow : Range → Range → Range → Range → Span
+inlineRow whole text destination title = span inlineKind whole text 0 destination title
 
--- The definition in row k of the definition table, where rows count from 0, has the number k + 1.
-abbrev pub reference : ℕ → Range → Range → ℕ → Range → Range → Span
-reference kind whole text k destination title = span kind whole text (k + 1) destination title
+-- "definition number (from 1; 0 if none)": of the definition in row k of the definition table, where rows count from 0
+abbrev pub definitionNumber : ℕ → ℕ
+definitionNumber k = k + 1
 
-abbrev pub full : Range → Range → ℕ → Range → Range → Span
-full = reference 3
+abbrev pub referenceRow : ℕ → Range → Range → ℕ → Range → Range → Span
+referenceRow kind whole text k destination title = span kind whole text (definitionNumber k) destination title
 
-abbrev pub collapsed : Range → Range → ℕ → Range → Range → Span
-collapsed = reference 4
+abbrev pub fullRow : Range → Range → ℕ → Range → Range → Span
+fullRow = referenceRow fullKind
 
-abbrev pub shortcut : Range → Range → ℕ → Range → Range → Span
-shortcut = reference 5
+abbrev pub collapsedRow : Range → Range → ℕ → Range → Range → Span
+collapsedRow = referenceRow collapsedKind
+
+abbrev pub shortcutRow : Range → Range → ℕ → Range → Range → Span
+shortcutRow = referenceRow shortcutKind
 
 -- ---- tables
 abbrev pub rows : List Span → List ℕ

@@ -3,7 +3,7 @@ ghost use mathlib.Core.Path.{_≡_};
 ghost use Prim.Native.Nat.{_+_, _<_, _^_};
 ghost use lib.ListN.{length};
 ghost use Rattle.row.specs.Row.{SmallPart};
-ghost use Rattle.span.specs.Row.{codeSpan, inline, reference, full, collapsed, shortcut, Small, wholeRows, storedHalf, stored, spanAt};
+ghost use Rattle.span.specs.Row.{codeSpanRow, inlineRow, referenceRow, fullRow, collapsedRow, shortcutRow, Small, wholeRows, storedHalf, stored, spanAt};
 use row::Range;
 
 // A code span or a link: its kind, from where to where it runs, the text between its backtick strings or brackets, the
@@ -32,7 +32,7 @@ impl Span {
     pub const SHORTCUT: u32 = 5;
 
     pub fn code_span(whole: Range, text: Range) -> Span
-        ensures { λ r. ⌜ r ≡ codeSpan whole text ⌝ }
+        ensures { λ r. ⌜ r ≡ codeSpanRow whole text ⌝ }
     {
         Span {
             kind: Span::CODE_SPAN,
@@ -45,7 +45,7 @@ impl Span {
     }
 
     pub fn inline(whole: Range, text: Range, destination: Range, title: Range) -> Span
-        ensures { λ r. ⌜ r ≡ inline whole text destination title ⌝ }
+        ensures { λ r. ⌜ r ≡ inlineRow whole text destination title ⌝ }
     {
         Span {
             kind: Span::INLINE,
@@ -67,7 +67,7 @@ impl Span {
         title: Range,
     ) -> Span
         requires { ⌜ k + 1 < 2 ^ 32 ⌝ }
-        ensures { λ r. ⌜ r ≡ reference kind whole text k destination title ⌝ }
+        ensures { λ r. ⌜ r ≡ referenceRow kind whole text k destination title ⌝ }
     {
         Span {
             kind,
@@ -81,21 +81,21 @@ impl Span {
 
     pub fn full(whole: Range, text: Range, k: usize, destination: Range, title: Range) -> Span
         requires { ⌜ k + 1 < 2 ^ 32 ⌝ }
-        ensures { λ r. ⌜ r ≡ full whole text k destination title ⌝ }
+        ensures { λ r. ⌜ r ≡ fullRow whole text k destination title ⌝ }
     {
         Span::reference(Span::FULL, whole, text, k, destination, title)
     }
 
     pub fn collapsed(whole: Range, text: Range, k: usize, destination: Range, title: Range) -> Span
         requires { ⌜ k + 1 < 2 ^ 32 ⌝ }
-        ensures { λ r. ⌜ r ≡ collapsed whole text k destination title ⌝ }
+        ensures { λ r. ⌜ r ≡ collapsedRow whole text k destination title ⌝ }
     {
         Span::reference(Span::COLLAPSED, whole, text, k, destination, title)
     }
 
     pub fn shortcut(whole: Range, text: Range, k: usize, destination: Range, title: Range) -> Span
         requires { ⌜ k + 1 < 2 ^ 32 ⌝ }
-        ensures { λ r. ⌜ r ≡ shortcut whole text k destination title ⌝ }
+        ensures { λ r. ⌜ r ≡ shortcutRow whole text k destination title ⌝ }
     {
         Span::reference(Span::SHORTCUT, whole, text, k, destination, title)
     }

@@ -1,0 +1,40 @@
+-- The rows of a paragraph's spans, computed.
+use Prim.Native.Nat.{ℕ, _+_, _-_}
+use mathlib.Core.List.{List, map}
+use lib.ListN.{drop}
+use Rattle.scan.specs.Reading.{run}
+use Rattle.marking.specs.Spans as marked
+use Rattle.marking.specs.Spans.{codeSpan, linkSpan}
+use Rattle.marking.specs.Scan.{spans}
+use Rattle.row.specs.declared.Range.{Range}
+use Rattle.row.specs.declared.Definition.{Definition}
+use Rattle.row.specs.Row.{range}
+use Rattle.span.specs.declared.Span.{Span}
+use Rattle.span.specs.Row.{span, numbers, codeSpanKind, inlineKind, fullKind, collapsedKind, shortcutKind}
+use Rattle.inline.specs.Pieces.{backtick}
+use Rattle.inline.specs.Tails.{Tail, inline, full, collapsed, shortcut}
+use Rattle.inline.specs.Grammar.{grammar}
+use Rattle.inline.specs.Rows.{Target, wholeOf, linkText, fromNote, targetOf}
+
+abbrev pub kindNumber : marked.Span Tail → ℕ
+kindNumber (codeSpan q) = codeSpanKind
+kindNumber (linkSpan o c (inline n d t)) = inlineKind
+kindNumber (linkSpan o c (full n k)) = fullKind
+kindNumber (linkSpan o c (collapsed k)) = collapsedKind
+kindNumber (linkSpan o c (shortcut k)) = shortcutKind
+
+abbrev pub textOf : List ℕ → marked.Span Tail → Range
+textOf p (codeSpan q) = let n = run backtick (drop (q .start) p) in range (q .start + n) (q .end - n)
+textOf p (linkSpan o c t) = linkText o c
+
+-- the row of a span of the paragraph p, which starts at place `offset` of the note; ds are the definitions
+abbrev pub rowFor : ℕ → List ℕ → List Definition → marked.Span Tail → Span
+rowFor offset p ds x =
+    let t : Target = targetOf offset ds x in span (kindNumber x) (fromNote offset (wholeOf x)) (fromNote offset (textOf p x)) (t .number) (t .destination) (t .title)
+
+abbrev pub spanRow : ℕ → List ℕ → List Definition → marked.Span Tail → List ℕ
+spanRow offset p ds x = numbers (rowFor offset p ds x)
+
+-- of all spans that are read, in order
+abbrev pub spanRows : ℕ → List ℕ → List (List ℕ) → List Definition → List (List ℕ)
+spanRows offset p labels ds = map (spanRow offset p ds) (spans (grammar p labels))
