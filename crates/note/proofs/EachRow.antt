@@ -6,9 +6,10 @@ use mathlib.Core.Logic.{_↔_}
 use mathlib.Core.List.{List}
 use Rattle.marking.proofs.Sorted.{sorted-same}
 use Rattle.inline.specs.Rows.{rowEnd}
-use Rattle.note.specs.Note.{EachRowOnce}
+use Rattle.note.specs.Note.{EachRowOnce, SpanRowsAre}
 use Rattle.note.specs.Reading.{spanRows}
 use Rattle.note.proofs.Markings.{marked}
+use Rattle.note.proofs.SpanRows.{span-rows-iff}
 use Rattle.note.proofs.Rows.{in-rows-iff}
 use Rattle.note.proofs.Order.{rows-in-order}
 
@@ -29,3 +30,7 @@ module _ (s : List ℕ) where
         sorted-same (λ (x y : List ℕ). rowEnd x < rowEnd y) (λ x y z h k. omega arith) (λ x h. omega arith) (spanRows s) rows (rows-in-order s) (r .in-order)
         (λ z i. r .each z (in-rows-iff s (r .marked) z .0 i)) (λ z i. in-rows-iff s (r .marked) z .1 (r .no-others z i))),
   )
+
+  -- paragraph after paragraph they are the same rows
+  pub by-paragraph : (rows : List (List ℕ)) → EachRowOnce s rows ↔ SpanRowsAre s rows
+  by-paragraph rows = ((λ r. span-rows-iff s rows .0 (each-row-iff rows .1 r)), λ r. each-row-iff rows .0 (span-rows-iff s rows .1 r))

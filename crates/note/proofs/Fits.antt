@@ -76,7 +76,7 @@ module _ (s : List ℕ) where
     target-fits (linkSpan o d (collapsed k)) y r = defined-fits k (numbered (linkSpan o d (collapsed k)) y)
     target-fits (linkSpan o d (shortcut k)) y r = defined-fits k (numbered (linkSpan o d (shortcut k)) y)
 
-    span-fits : (x : Span Tail) → SpanOf m x → RowWithin (q .at) (length (q .bytes)) (row x) → RowFits s (row x)
+    span-fits : (x : Span Tail) → SpanOf m x → RowWithin (q .at) (length (q .bytes)) (row x) → RowFits s (definitions s) (row x)
     span-fits x y r =
         let t = target-fits x y r in
         record {
@@ -92,9 +92,9 @@ module _ (s : List ℕ) where
           title-end = t .title .end;
         }
 
-  pub rows-fit : (row : List ℕ) → In row (spanRows s) → RowFits s row
+  pub rows-fit : (row : List ℕ) → In row (spanRows s) → RowFits s (definitions s) row
   rows-fit row i =
       let f = from-span s row i in
       let q = f .paragraph in
-      subst (RowFits s) (f .row-is)
+      subst (RowFits s (definitions s)) (f .row-is)
       (span-fits q (f .inside) (f .marking) (f .meets) (f .span) (f .of-marking) (subst (RowWithin (q .at) (length (q .bytes))) (sym (f .row-is)) (f .within)))

@@ -18,4 +18,4 @@ pub mod Bracket
 -- demand 3
 pub mod Demand3
 -- the samples by the law
-pub mod Bench
+pub mod Samples

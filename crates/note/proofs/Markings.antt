@@ -36,6 +36,10 @@ module _ (s : List ℕ) where
         each = markings-meet s (definitions s) (paragraphs s);
       }
 
+  -- the definitions of any marked note are those that are read
+  pub definitions-are-read : (n : Marked s) → definitions s ≡ n .definitions
+  definitions-are-read n = note-iff s (n .definitions) (n .paragraphs) .1 (n .note) .0
+
   -- exactly one marking of each paragraph meets the conditions, for every list of bytes, so for every note, refused or not
   pub one-marking-each : OneMarkingEach s
   one-marking-each =

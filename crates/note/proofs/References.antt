@@ -16,9 +16,10 @@ use Rattle.definition.proofs.NotePlaces.{Inside}
 use Rattle.inline.specs.Tails.{Tail, full, collapsed, shortcut, LabelFollows, Inline, empty, untitled, titled, TailOf, first, second, third, third-alone}
 use Rattle.inline.specs.Rows.{Target, defined, targetOf, RowWithin}
 use Rattle.inline.specs.ReadingRows.{kindNumber, spanRow}
-use Rattle.note.specs.Note.{MarkingOf}
+use Rattle.note.specs.Note.{MarkingOf, Marked}
 use Rattle.note.specs.Claims.{lookedUp, RefersTo}
-use Rattle.note.specs.Reading.{labels, spanRows}
+use Rattle.note.specs.Reading.{spanRows}
+use Rattle.note.proofs.Markings.{definitions-are-read}
 use Rattle.note.proofs.Spans.{link-read}
 use Rattle.note.proofs.Placing.{from-span, at-getD, part-bytes}
 
@@ -45,8 +46,7 @@ module _ (s : List ℕ) (q : Placed) (w : Inside s q) (o d : Piece) where
 
   -- the row of a tail whose target is definition k, found by a label that stands in the note
   refers : (t : Tail) (label : List ℕ) (k : ℕ) → targetOf (q .at) (definitions s) (linkSpan o d t) ≡ defined (definitions s) k → bytesOf s (lookedUp (rowOf t)) ≡ label
-      → FirstEqual (labelsOf s (definitions s)) label k → RefersTo s (rowOf t)
-  unfolding labels
+      → FirstEqual (labelsOf s (definitions s)) label k → RefersTo s (definitions s) (rowOf t)
   refers t label k e b f =
       record {
         index = k;
@@ -69,7 +69,7 @@ module _ (s : List ℕ) (q : Placed) (w : Inside s q) (o d : Piece) where
       part-bytes s q w (o .end) (d .start - o .end) (omega (arith, r .text-ordered, r .text-to, r .to)) (q .at + o .end) (q .at + d .start) refl (omega (arith, r .text-ordered))
 
   tail-refers : {t : Tail} → d .end ≡ d .start + 1 → Lies t → TailOf (labelsOf s (definitions s)) textIn (drop (d .start + 1) (q .bytes)) (d .start + 1) t
-      → 3 ≤ kindNumber (linkSpan o d t) → RefersTo s (rowOf t)
+      → 3 ≤ kindNumber (linkSpan o d t) → RefersTo s (definitions s) (rowOf t)
   tail-refers e r (first i) h = absurd (omega (arith, inline-kind o d i))
   tail-refers e r (second label {k} a b f) h = refers (full (length label + 2) k) label k refl (second-label label k e r b) f
   tail-refers e r (third {k} a b l f x) h = refers (collapsed k) textIn k refl (text-label (collapsed k) r e) f
@@ -77,17 +77,20 @@ module _ (s : List ℕ) (q : Placed) (w : Inside s q) (o d : Piece) where
 
 module _ (s : List ℕ) where
   span-refers : (q : Placed) → Inside s q → (m : Marking Tail) → MarkingOf s (definitions s) q m → (x : Span Tail) → SpanOf m x
-      → RowWithin (q .at) (length (q .bytes)) (spanRow (q .at) (q .bytes) (definitions s) x) → 3 ≤ kindNumber x → RefersTo s (spanRow (q .at) (q .bytes) (definitions s) x)
+      → RowWithin (q .at) (length (q .bytes)) (spanRow (q .at) (q .bytes) (definitions s) x) → 3 ≤ kindNumber x → RefersTo s (definitions s) (spanRow (q .at) (q .bytes) (definitions s) x)
   span-refers q w m c (codeSpan p) y r h = absurd (omega arith)
   span-refers q w m c (linkSpan o d t) y r h =
       let l = link-read (q .bytes) (labelsOf s (definitions s)) m c o d t y in
       tail-refers s q w o d (l .one-bracket) r (l .reads) h
 
-  -- rows of the kinds 3, 4 and 5
-  pub references-refer : (row : List ℕ) → In row (spanRows s) → 3 ≤ getD row 0 0 → RefersTo s row
-  references-refer row i h =
+  refers-to : (row : List ℕ) → In row (spanRows s) → 3 ≤ getD row 0 0 → RefersTo s (definitions s) row
+  refers-to row i h =
       let f = from-span s row i in
       let q = f .paragraph in
       let e = f .row-is in
       let k : 3 ≤ kindNumber (f .span) = subst (λ (x : List ℕ). 3 ≤ getD x 0 0) (sym e) h in
-      subst (RefersTo s) e (span-refers q (f .inside) (f .marking) (f .meets) (f .span) (f .of-marking) (subst (RowWithin (q .at) (length (q .bytes))) (sym e) (f .within)) k)
+      subst (RefersTo s (definitions s)) e (span-refers q (f .inside) (f .marking) (f .meets) (f .span) (f .of-marking) (subst (RowWithin (q .at) (length (q .bytes))) (sym e) (f .within)) k)
+
+  -- rows of the kinds 3, 4 and 5
+  pub references-refer : (n : Marked s) (row : List ℕ) → In row (spanRows s) → 3 ≤ getD row 0 0 → RefersTo s (n .definitions) row
+  references-refer n row i h = subst (λ (ds : List Definition). RefersTo s ds row) (definitions-are-read s n) (refers-to row i h)

@@ -15,11 +15,9 @@ use Rattle.row.specs.declared.Definition.{Definition}
 use Rattle.row.specs.Row.{range}
 use Rattle.row.specs.First.{bytesOf, labelsOf, FirstEqual}
 use Rattle.span.specs.Row.{width}
-use Rattle.definition.specs.Reading.{definitions}
 use Rattle.inline.specs.Paragraph.{rules}
 use Rattle.inline.specs.Rows.{rowEnd}
 use Rattle.note.specs.Note.{Marked, SpanRowsAre, EachRowOnce}
-use Rattle.note.specs.Reading.{labels, spanRows}
 
 -- the note has markings, one for each paragraph, and no other list of markings; each paragraph has exactly one
 pub record OneMarkingEach (s : List ℕ) : Type 0 where
@@ -28,14 +26,15 @@ pub record OneMarkingEach (s : List ℕ) : Type 0 where
       → (n .definitions ≡ the-markings .definitions) × (n .paragraphs ≡ the-markings .paragraphs) × (n .markings ≡ the-markings .markings)
   pub each : (q : Placed) → In q (the-markings .paragraphs) → ExactlyOne (rules (q .bytes) (labelsOf s (the-markings .definitions)))
 
--- a span row has ten numbers, every place in it is at most the note's length, and its definition number at most the number of definitions
-pub record RowFits (s : List ℕ) (row : List ℕ) : Type 0 where
+-- A span row of a note s with the definitions ds has ten numbers, every place in it is at most the note's length, and its definition number at most
+-- the number of definitions.
+pub record RowFits (s : List ℕ) (ds : List Definition) (row : List ℕ) : Type 0 where
   pub wide : length row ≡ width
   pub start : getD row 1 0 ≤ getD row 3 0
   pub text : getD row 3 0 ≤ getD row 4 0
   pub text-end : getD row 4 0 ≤ rowEnd row
   pub end : rowEnd row ≤ length s
-  pub number : getD row 5 0 ≤ length (definitions s)
+  pub number : getD row 5 0 ≤ length ds
   pub destination-start : getD row 6 0 ≤ length s
   pub destination-end : getD row 7 0 ≤ length s
   pub title-start : getD row 8 0 ≤ length s
@@ -46,11 +45,12 @@ abbrev pub lookedUp : List ℕ → Range
 lookedUp row = cond (eqb (getD row 0 0) 3) (range (getD row 4 0 + 2) (rowEnd row - 1)) (range (getD row 3 0) (getD row 4 0))
 
 -- "In a lookup the search stops at the first equal label"; "A reference's definition is the one that demand 2 names; its destination and title are that definition's."
-pub record RefersTo (s : List ℕ) (row : List ℕ) : Type 0 where
+-- ds are the definitions of the note s.
+pub record RefersTo (s : List ℕ) (ds : List Definition) (row : List ℕ) : Type 0 where
   pub index : ℕ
-  pub first-equal : FirstEqual (labels s) (bytesOf s (lookedUp row)) index
+  pub first-equal : FirstEqual (labelsOf s ds) (bytesOf s (lookedUp row)) index
   pub definition : Definition
-  pub is-there : getElem? (definitions s) index ≡ some definition
+  pub is-there : getElem? ds index ≡ some definition
   pub number-is : getD row 5 0 ≡ index + 1
   pub target-is : drop 6 row ≡ definition .destination .start ∷ definition .destination .end ∷ definition .title .start ∷ definition .title .end ∷ []
 
@@ -59,9 +59,12 @@ pub record Demand3 (s : List ℕ) : Type 0 where
   -- "Exactly one marking of each paragraph meets them, for every well-formed note within the length limit, refused or not."
   pub one-marking-each : OneMarkingEach s
   -- "Span rows are those of the links and code spans of these markings, each once, no others, equal in every number, in order of end."
-  pub span-rows : (rows : List (List ℕ)) → (spanRows s ≡ rows) ↔ EachRowOnce s rows
-  pub by-paragraph : (rows : List (List ℕ)) → (spanRows s ≡ rows) ↔ SpanRowsAre s rows
-  pub each-once : (i j : ℕ) (row : List ℕ) → getElem? (spanRows s) i ≡ some row → getElem? (spanRows s) j ≡ some row → i ≡ j
-  -- what stands in a row
-  pub fits : (row : List ℕ) → In row (spanRows s) → RowFits s row
-  pub refers : (row : List ℕ) → In row (spanRows s) → 3 ≤ getD row 0 0 → RefersTo s row
+  pub rows : List (List ℕ)
+  pub each-row-once : EachRowOnce s rows
+  pub no-other-rows : (others : List (List ℕ)) → EachRowOnce s others → others ≡ rows
+  pub each-at-one-place : (i j : ℕ) (row : List ℕ) → getElem? rows i ≡ some row → getElem? rows j ≡ some row → i ≡ j
+  -- what follows: paragraph after paragraph they are the same rows
+  pub by-paragraph : (others : List (List ℕ)) → EachRowOnce s others ↔ SpanRowsAre s others
+  -- what stands in a row; of demand 2, what stands in a row of the kinds 3, 4 and 5
+  pub fits : (n : Marked s) (row : List ℕ) → In row rows → RowFits s (n .definitions) row
+  pub refers : (n : Marked s) (row : List ℕ) → In row rows → 3 ≤ getD row 0 0 → RefersTo s (n .definitions) row

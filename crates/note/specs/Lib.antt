@@ -1,4 +1,4 @@
 pub mod Note
 pub mod Reading
 pub mod Claims
-pub mod Bench
+pub mod Samples

@@ -22,7 +22,7 @@ use Rattle.inline.specs.Tails.{Tail}
 use Rattle.note.specs.Note.{FirstDeep, NeverDeep}
 use Rattle.note.specs.Reading.{spanRows, firstDeep}
 use Rattle.note.proofs.Markings.{one-marking-each}
-use Rattle.note.proofs.SpanRows.{span-rows-iff}
+use Rattle.note.proofs.EachRow.{each-row-iff}
 use Rattle.note.proofs.Depth.{first-deep-iff, never-deep-iff}
 use Rattle.notice.specs.declared.Reading.{Reading}
 use Rattle.notice.specs.declared.Reading.the-variants.{FewDefinitions, FewSpans}
@@ -45,10 +45,10 @@ module _ (s : List ℕ) where
   definition-count c = ap length (note-iff s (c .definitions) (c .paragraphs) .1 (c .note) .0) ∙ c .counted
 
   pub spans-counted : SpansCounted s (length (spanRows s))
-  spans-counted = record { rows = spanRows s; rows-are = span-rows-iff s (spanRows s) .0 refl; counted = refl }
+  spans-counted = record { rows = spanRows s; each-once = each-row-iff s (spanRows s) .0 refl; counted = refl }
 
   pub span-count : {count : ℕ} → SpansCounted s count → length (spanRows s) ≡ count
-  span-count c = ap length (span-rows-iff s (c .rows) .1 (c .rows-are)) ∙ c .counted
+  span-count c = ap length (each-row-iff s (c .rows) .1 (c .each-once)) ∙ c .counted
 
   -- "some paragraph has over 64 brackets open at once"
   pub some-deep : {place : ℕ} → FirstDeep s place → SomeDeep s

@@ -7,7 +7,7 @@ use lib.ListN.{length, getD, drop, getElem?}
 use Rattle.rows.proofs.Standing.{row-at}
 use Rattle.span.specs.Row.{width, rowAt}
 use Rattle.note.specs.Reading.{spanRows}
-use Rattle.note.proofs.SpanRows.{span-rows-iff}
+use Rattle.note.proofs.EachRow.{each-row-iff}
 use Rattle.note.proofs.Placing.{at-getD}
 use Rattle.note.proofs.Fits.{rows-fit}
 use Rattle.notice.specs.Reader.{spanNumbers}
@@ -16,7 +16,7 @@ use Rattle.notice.specs.Claims.{SpanRows}
 -- row k of the table is the note's span row k
 pub rows-stand : (s u : List ℕ) {u′ : List ℕ} → SpanRows s u u′ → (k : ℕ) → k < length (spanRows s) → getElem? (spanRows s) k ≡ some (rowAt u′ k)
 rows-stand s u {u′} v k h =
-    let e : spanRows s ≡ v .rows = span-rows-iff s (v .rows) .1 (v .rows-are) in
+    let e : spanRows s ≡ v .rows = each-row-iff s (v .rows) .1 (v .each-once) in
     let holds : u′ ≡ spanNumbers (spanRows s) ++ drop (length (v .rows) * width) u = v .holds ∙ rw e refl in
     let row : List ℕ = getD (spanRows s) k [] in
     let there : getElem? (spanRows s) k ≡ some row = at-getD (spanRows s) k [] h in

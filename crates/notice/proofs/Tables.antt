@@ -14,8 +14,8 @@ use Rattle.row.proofs.Filled.{filled-whole, length-filled}
 use Rattle.definition.specs.Reading.{definitions, paragraphs}
 use Rattle.definition.proofs.Notes.{note-some}
 use Rattle.span.specs.Row as spanTable
+use Rattle.note.specs.Note.{EachRowOnce}
 use Rattle.note.specs.Reading.{spanRows}
-use Rattle.note.proofs.SpanRows.{span-rows-iff}
 use Rattle.note.proofs.EachRow.{each-row-iff}
 use Rattle.note.proofs.Fits as fitting
 use Rattle.note.proofs.References.{references-refer}
@@ -49,18 +49,18 @@ module _ (s : List ℕ) where
   span-rows : (u : List ℕ) {u′ : List ℕ} → Enough (spanTable.wholeRows u) (SpansCounted s) → u′ ≡ spansFilled (spanRows s) u → SpanRows s u u′
   span-rows u w e =
       let h : length (spanRows s) ≤ spanTable.wholeRows u = omega (arith, span-count s (w .counted), w .enough) in
+      let each : EachRowOnce s (spanRows s) = each-row-iff s (spanRows s) .0 refl in
       record {
         rows = spanRows s;
-        rows-are = span-rows-iff s (spanRows s) .0 refl;
-        each-once = each-row-iff s (spanRows s) .0 refl;
-        refer = references-refer s;
+        each-once = each;
+        refer = references-refer s (each .marked);
         fit = h;
         holds = e ∙ spans-filled-whole u h;
       }
 
   size-of : (u : List ℕ) {u′ : List ℕ} → SpanRows s u u′ → length u′ ≡ length u
   size-of u r =
-      let e : spanRows s ≡ r .rows = span-rows-iff s (r .rows) .1 (r .rows-are) in
+      let e : spanRows s ≡ r .rows = each-row-iff s (r .rows) .1 (r .each-once) in
       let n : length (spanNumbers (r .rows)) ≡ length (r .rows) * spanTable.width = rw e at span-numbers in
       ap length (r .holds) ∙ rw (length-append, length-drop) (omega (arith, n, rows-fit spanTable.width (length (r .rows)) u (r .fit)))
 

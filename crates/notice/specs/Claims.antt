@@ -12,7 +12,7 @@ use Rattle.row.specs.declared.Definition.{Definition}
 use Rattle.row.specs.Row as definitionTable
 use Rattle.definition.specs.Note.{NoteIs}
 use Rattle.span.specs.Row as spanTable
-use Rattle.note.specs.Note.{SpanRowsAre, EachRowOnce, FirstDeep}
+use Rattle.note.specs.Note.{EachRowOnce, FirstDeep}
 use Rattle.note.specs.Claims.{RefersTo}
 use Rattle.notice.specs.declared.Reading.{Reading}
 use Rattle.notice.specs.Law.{DefinitionsCounted, SpansCounted, Due0, Due1, Due2, Due3, Due4, Due5, Answers}
@@ -45,11 +45,10 @@ pub record DefinitionRows (s t t′ : List ℕ) : Type 0 where
 -- Demand 3, and demand 2 of references: the table u has become u′.
 pub record SpanRows (s u u′ : List ℕ) : Type 0 where
   pub rows : List (List ℕ)
-  -- the rows of the one marking of each paragraph
-  pub rows-are : SpanRowsAre s rows
+  -- those of the links and code spans in the markings, each once, no others
   pub each-once : EachRowOnce s rows
   -- rows of the kinds 3, 4 and 5: "In a lookup the search stops at the first equal label"
-  pub refer : (row : List ℕ) → In row rows → 3 ≤ getD row 0 0 → RefersTo s row
+  pub refer : (row : List ℕ) → In row rows → 3 ≤ getD row 0 0 → RefersTo s (each-once .marked .definitions) row
   pub fit : length rows ≤ spanTable.wholeRows u
   pub holds : u′ ≡ spanNumbers rows ++ drop (length rows * spanTable.width) u
 

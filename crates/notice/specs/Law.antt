@@ -11,7 +11,7 @@ use Rattle.block.specs.Block.{Placed}
 use Rattle.row.specs.declared.Definition.{Definition}
 use Rattle.definition.specs.Note.{NoteIs}
 use Rattle.inline.specs.Tails.{Tail}
-use Rattle.note.specs.Note.{depthLimit, Marked, SpanRowsAre, FirstDeep, NeverDeep}
+use Rattle.note.specs.Note.{depthLimit, Marked, EachRowOnce, FirstDeep, NeverDeep}
 use Rattle.notice.specs.declared.Reading.{Reading}
 use Rattle.notice.specs.declared.Reading.the-variants.{Read, Long, Bad, FewDefinitions, Deep, FewSpans}
 
@@ -25,7 +25,7 @@ pub record DefinitionsCounted (s : List ℕ) (count : ℕ) : Type 0 where
 -- the note has so many spans
 pub record SpansCounted (s : List ℕ) (count : ℕ) : Type 0 where
   pub rows : List (List ℕ)
-  pub rows-are : SpanRowsAre s rows
+  pub each-once : EachRowOnce s rows
   pub counted : length rows ≡ count
 
 -- "fewer whole definition rows lent than definitions", "fewer whole span rows lent than spans"

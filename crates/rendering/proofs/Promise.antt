@@ -11,6 +11,7 @@ use lib.Seq.{take-at}
 use Rattle.scan.proofs.Test.{by}
 use Rattle.row.specs.Row as definitionTable
 use Rattle.span.specs.Row as spanTable
+use Rattle.note.proofs.EachRow.{by-paragraph}
 use Rattle.page.specs.Reading.{pageBy, pageOf}
 use Rattle.page.proofs.Page.{page-iff}
 use Rattle.page.proofs.ByRows.{page-by-rows}
@@ -95,7 +96,7 @@ module _ {s t u p : List ℕ} {r : Rendering} {s′ t′ u′ p′ : List ℕ} (
   by-rows z d v =
       let h = page-there z in
       let size : length (h .page) ≡ pageLength r = sym (ap length (page-iff s (h .page) .1 (h .page-is))) ∙ page-size s (demand-1 .page-measured z) in
-      let page : pageBy s (d .paragraphs) (v .rows) ≡ h .page = page-by-rows s (d .definitions) (d .paragraphs) (v .rows) (d .note) (v .rows-are) (h .page) .1 (h .page-is) in
+      let page : pageBy s (d .paragraphs) (v .rows) ≡ h .page = page-by-rows s (d .definitions) (d .paragraphs) (v .rows) (d .note) (by-paragraph s (v .rows) .0 (v .each-once)) (h .page) .1 (h .page-is) in
       ap (take (pageLength r)) (h .holds) ∙ take-at (h .page) (drop (length (h .page)) p) (pageLength r) size ∙ sym page
 
   -- ---- all of it

@@ -11,7 +11,7 @@ use Rattle.text.specs.Utf8.{noteLimit}
 use Rattle.row.specs.Row as definitionTable
 use Rattle.span.specs.Row as spanTable
 use Rattle.note.specs.Reading.{spanRows}
-use Rattle.note.proofs.SpanRows.{span-rows-iff}
+use Rattle.note.proofs.EachRow.{each-row-iff}
 use Rattle.html.specs.Stored.{Writes}
 use Rattle.html.proofs.Writing.{measured}
 use Rattle.page.specs.Reading.{pageOf}
@@ -32,7 +32,7 @@ use Rattle.rendering.proofs.Answers.{by-reader}
 -- a table that holds the note's span rows is one to write the page from
 pub filled-spanned : (s u : List ℕ) {u′ : List ℕ} → length s ≤ noteLimit → SpanRows s u u′ → length u′ ≡ length u → Spanned s u′ (length (spanRows s))
 filled-spanned s u {u′} h v e =
-    let n : spanRows s ≡ v .rows = span-rows-iff s (v .rows) .1 (v .rows-are) in
+    let n : spanRows s ≡ v .rows = each-row-iff s (v .rows) .1 (v .each-once) in
     record {
       short = h;
       counted = refl;

@@ -11,10 +11,10 @@ use Rattle.row.specs.Row.{numbers}
 use Rattle.definition.specs.Note.{NoteIs}
 use Rattle.definition.specs.Reading.{definitions, paragraphs}
 use Rattle.definition.proofs.Notes.{note-some}
-use Rattle.note.specs.Note.{SpanRowsAre}
-use Rattle.note.specs.Bench.{Sample, samples, readOne, holds}
+use Rattle.note.specs.Note.{EachRowOnce}
+use Rattle.note.specs.Samples.{Sample, samples, readOne, holds}
 use Rattle.note.proofs.Members.{mapped-at}
-use Rattle.note.proofs.SpanRows.{span-rows-iff}
+use Rattle.note.proofs.EachRow.{each-row-iff}
 
 -- the sample's rows are those that the law gives its note
 pub record ByLaw (x : Sample) : Type 0 where
@@ -22,7 +22,7 @@ pub record ByLaw (x : Sample) : Type 0 where
   pub paragraphs : List Placed
   pub note : NoteIs (ascii (x .note)) definitions paragraphs
   pub definition-rows-are : map numbers definitions ≡ x .definition-rows
-  pub span-rows-are : SpanRowsAre (ascii (x .note)) (x .span-rows)
+  pub span-rows-are : EachRowOnce (ascii (x .note)) (x .span-rows)
 
 pub samples-by-law : (x : Sample) → In x samples → ByLaw x
 samples-by-law x (k, e) =
@@ -32,5 +32,5 @@ samples-by-law x (k, e) =
       paragraphs = paragraphs (ascii (x .note));
       note = note-some (ascii (x .note));
       definition-rows-are = ap (λ (y : Sample). y .definition-rows) same;
-      span-rows-are = span-rows-iff (ascii (x .note)) (x .span-rows) .0 (ap (λ (y : Sample). y .span-rows) same);
+      span-rows-are = each-row-iff (ascii (x .note)) (x .span-rows) .0 (ap (λ (y : Sample). y .span-rows) same);
     }
