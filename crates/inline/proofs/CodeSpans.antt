@@ -13,8 +13,9 @@ use Rattle.scan.proofs.Test.{by}
 use Rattle.scan.proofs.Scan.{Outcome, scan-holds, at-cons}
 use Rattle.scan.specs.declared.Found.{Found}
 use Rattle.scan.specs.declared.Found.the-variants.{At, Nothing}
-use Rattle.inline.specs.Pieces.{backtick, MaximalRun, FirstRun}
-use Rattle.inline.specs.CodeSpan.{Counted, countAfter, runStep, runDone, closingRun, closes, passed, ends-full, ends-other}
+use Rattle.inline.specs.Pieces.{backtick, MaximalBackticks, FirstRun}
+use Rattle.inline.specs.ReadingPieces.{Counted, countAfter, runStep, runDone, closingRun}
+use Rattle.inline.proofs.Turns.{closes, passed, ends-full, ends-other}
 use Rattle.inline.proofs.Ticks.{tick, ticks-in, ticks-end, as-backticks, ticks-first}
 
 -- the first maximal run of exactly n from place `from` on ends at place e
@@ -24,7 +25,7 @@ pub record RunEnds (p : List ℕ) (from n e : ℕ) : Type 0 where
   pub ends : e ≡ place + n
 
 abbrev pub NoRun : List ℕ → ℕ → ℕ → Type 0
-NoRun p from n = (b : ℕ) → from ≤ b → MaximalRun p b n → ⊥
+NoRun p from n = (b : ℕ) → from ≤ b → MaximalBackticks p b n → ⊥
 
 -- of three ways that two numbers can stand
 pub order : {P : Type 0} (a b : ℕ) → (a < b → P) → (a ≡ b → P) → (b < a → P) → P
@@ -42,7 +43,7 @@ record Stands (p : List ℕ) (from n i c : ℕ) : Type 0 where
   ticks : (k : ℕ) → i ≤ k + c → k < i → tick p k ≡ true
   apart : from < i → from + c < i
   edge : (k : ℕ) → from ≤ k → suc k + c ≡ i → tick p k ≡ false
-  none-before : (b : ℕ) → from ≤ b → b + c < i → MaximalRun p b n → ⊥
+  none-before : (b : ℕ) → from ≤ b → b + c < i → MaximalBackticks p b n → ⊥
 
 module _ (p : List ℕ) (from n : ℕ) (some : 0 < n) (starts : tick p from ≡ false) where
   begins : Stands p from n from 0
@@ -90,7 +91,7 @@ module _ (p : List ℕ) (from n : ℕ) (some : 0 < n) (starts : tick p from ≡ 
               }
 
       -- they are not
-      no-run : (c ≡ n → ⊥) → (b : ℕ) → from ≤ b → b ≤ i → MaximalRun p b n → ⊥
+      no-run : (c ≡ n → ⊥) → (b : ℕ) → from ≤ b → b ≤ i → MaximalBackticks p b n → ⊥
       no-run ne b h l m =
           order (b + c) i (λ k. s .none-before b h k m)
           (λ k. order c n

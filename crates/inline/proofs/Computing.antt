@@ -1,18 +1,31 @@
--- The grammar of a paragraph computes its rules.
-use Prim.Native.Nat.{ℕ, _+_, _-_}
+-- The grammar of a paragraph computes its rules, and its pieces and tails lie within the paragraph.
+use Prim.Native.Nat.{ℕ, _+_, _-_, _≤_, _<_}
+use native.Mathlib.Omega.{arith}
 use mathlib.Core.Path.{_≡_, refl, sym, ap}
+use mathlib.Core.Option.{some}
 use mathlib.Core.List.{List}
-use lib.ListN.{take, drop}
-use Rattle.marking.specs.Marking.{Piece}
-use Rattle.marking.specs.Grammar.{Computed, Computes}
+use lib.ListN.{length, take, drop, length-drop}
+use Rattle.marking.specs.Marking.{closing, role, Piece}
+use Rattle.marking.specs.ReadingRules.{Computed, Computes}
+use Rattle.marking.proofs.Sound.{Sound}
+use Rattle.inline.specs.Tails.{Tail, lengthOf}
 use Rattle.inline.specs.Paragraph.{rules}
-use Rattle.inline.specs.Start.{pieceFrom}
-use Rattle.inline.specs.PieceBounds.{sized}
-use Rattle.inline.specs.Grammar.{grammar}
+use Rattle.inline.specs.ReadingPieces.{pieceFrom}
+use Rattle.inline.proofs.PieceBounds.{sized}
+use Rattle.inline.specs.Reading.{grammar, tailAt}
+use Rattle.inline.proofs.TailBounds.{tailOf-fits}
 use Rattle.inline.proofs.Starting.{IsFrom, starts-iff}
 use Rattle.inline.proofs.Tailing.{tail-iff}
 
 module _ (p : List ℕ) (labels : List (List ℕ)) where
+  -- a tail ends within the paragraph
+  pub tail-within : (o c : ℕ) (t : Tail) → c < length p → role (pieceFrom p c .kind) ≡ closing → tailAt p labels o c ≡ some t → pieceFrom p c .end + lengthOf t ≤ length p
+  tail-within o c t h k e =
+      omega (arith, sized p c h .one-byte k, tailOf-fits (drop (c + 1) p) labels (take (c - o) (drop o p)) (c + 1) t e, length-drop (c + 1) p)
+
+  pub sound : Sound (grammar p labels)
+  sound = record { grows = λ a h. sized p a h .grows; within = λ a h. sized p a h .within; no-tail = λ a h. sized p a h .no-tail; tail-within = tail-within }
+
   as-computed : (q : Piece) → IsFrom p q → Computed (grammar p labels) q
   as-computed q f = record { inside = f .inside; kind-is = ap (λ (x : Piece). x .kind) (sym (f .from)); end-is = ap (λ (x : Piece). x .end) (sym (f .from)) }
 

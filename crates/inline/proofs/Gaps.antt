@@ -16,7 +16,7 @@ use Rattle.target.specs.Target.{lineFeeds, Space}
 use Rattle.target.specs.Reading.{spaceRun}
 use Rattle.target.proofs.Space.{space-exact, spaceRun-longest, spaceRun-iff, spaceRun-fits}
 use Rattle.inline.specs.Tails.{Closes}
-use Rattle.inline.specs.Inline.{spaceEnd}
+use Rattle.inline.specs.ReadingTails.{spaceEnd}
 use Rattle.inline.proofs.Ticks.{every-at}
 
 -- ---- all the space from place i on

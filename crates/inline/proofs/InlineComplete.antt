@@ -13,9 +13,8 @@ use Rattle.target.proofs.Delimited.{Within, placed-within}
 use Rattle.target.proofs.Destinations.{destination-iff, destination-placed, destination-front}
 use Rattle.target.proofs.Titles.{title-iff, title-placed, title-front}
 use Rattle.row.specs.Row.{range, absent}
-use Rattle.inline.specs.Tails.{Tail, inline, part as partOf, placeOf, Opens, Apart, Closes, Inline, empty, untitled, titled as withTitle}
-use Rattle.inline.specs.Inline.{spaceEnd, afterDestination, bodyOf, inlineOf}
-use Rattle.inline.specs.References.{moved, movedParts}
+use Rattle.inline.specs.Tails.{Tail, inline, part as partOf, placeOf, Opens, Apart, Closes, InlineFollows, empty, untitled, titled as withTitle}
+use Rattle.inline.specs.ReadingTails.{spaceEnd, afterDestination, bodyOf, inlineOf, moved, movedParts}
 use Rattle.inline.specs.declared.InlineParts.{InlineParts}
 use Rattle.inline.specs.declared.InlineTail.the-variants.{Parts, Nothing}
 use Rattle.inline.proofs.InlineSteps.{closed-yes, after-alone, after-titled, opened, no-title, no-destination, moved-part, inline-path}
@@ -133,7 +132,7 @@ module _ (s : List ℕ) (at : ℕ) where
               is = inline-path (sym (k .size)) destination-is title-is;
             }
 
-  pub inline-read : {t : Tail} → Inline s at t → ReadAs s at t
+  pub inline-read : {t : Tail} → InlineFollows s at t → ReadAs s at t
   inline-read (empty body rest o c) = empty-read o c
   inline-read (untitled body l m rest from o d c) = untitled-read o d c
   inline-read (withTitle body l m quoted l′ m′ rest from o d x t c) = titled-read o d x t c

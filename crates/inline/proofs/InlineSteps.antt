@@ -18,8 +18,7 @@ use Rattle.target.proofs.Destinations.{no-destination-iff, destination-front}
 use Rattle.row.specs.declared.Range.{Range}
 use Rattle.row.specs.Row.{range, absent}
 use Rattle.inline.specs.Tails.{inline, part as partOf}
-use Rattle.inline.specs.Inline.{parts, spaceEnd, closedAt, afterDestination, afterSpace, inlineOf}
-use Rattle.inline.specs.References.{moved}
+use Rattle.inline.specs.ReadingTails.{parts, spaceEnd, closedAt, afterDestination, afterSpace, inlineOf, moved}
 use Rattle.inline.specs.declared.InlineTail.the-variants.{Nothing}
 
 -- ---- the reading's steps, by what stands there

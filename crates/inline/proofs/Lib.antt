@@ -1,3 +1,6 @@
+pub mod Turns
+pub mod PieceBounds
+pub mod TailBounds
 pub mod Plain
 pub mod Ticks
 pub mod CodeSpans

@@ -17,11 +17,11 @@ use Rattle.marking.proofs.Pairs.{link-pair}
 use Rattle.row.specs.declared.Definition.{Definition}
 use Rattle.row.specs.declared.Range.{Range}
 use Rattle.row.specs.Row.{range}
-use Rattle.inline.specs.Pieces.{backtick, Backticks, MaximalRun, Starts, an-escape, code-span, backticks, opening, closing as closes, other}
-use Rattle.inline.specs.PieceBounds.{sized}
-use Rattle.inline.specs.Tails.{Tail, inline, lengthOf, Inline, empty, untitled, titled, TailOf, first, second, third, third-alone}
-use Rattle.inline.specs.References.{moved}
-use Rattle.inline.specs.TailBounds.{PartIn, inlineOf-within}
+use Rattle.inline.specs.Pieces.{backtick, Backticks, MaximalBackticks, Starts, an-escape, code-span, backticks, opening, closing as closes, other}
+use Rattle.inline.proofs.PieceBounds.{sized}
+use Rattle.inline.specs.Tails.{Tail, inline, lengthOf, InlineFollows, empty, untitled, titled, TailOf, first, second, third, third-alone}
+use Rattle.inline.specs.ReadingTails.{moved}
+use Rattle.inline.proofs.TailBounds.{PartIn, inlineOf-within}
 use Rattle.inline.specs.Paragraph.{rules}
 use Rattle.inline.specs.Rows.{wholeOf, targetOf, PartBetween}
 use Rattle.inline.specs.ReadingRows.{textOf}
@@ -44,7 +44,7 @@ pub record BetweenStrings (p : List ℕ) (q : Piece) : Type 0 where
   pub count : ℕ
   pub opening-string : Backticks p (q .start) count
   pub text-is : textOf p (codeSpan q) ≡ range (q .start + count) (q .end - count)
-  pub closing-string : MaximalRun p (q .end - count) count
+  pub closing-string : MaximalBackticks p (q .end - count) count
   pub apart : q .start + count + count ≤ q .end
 
 between-strings : (p : List ℕ) {q : Piece} → Starts p q → q .kind ≡ code → BetweenStrings p q
@@ -111,7 +111,7 @@ read-between s at n d t r =
     second-as e = cc
 
 -- only the first rule gives an inline tail
-inline-only : {labels : List (List ℕ)} {text s : List ℕ} {at : ℕ} {x : Tail} → TailOf labels text s at x → {n : ℕ} {d t : Option Range} → x ≡ inline n d t → Inline s at x
+inline-only : {labels : List (List ℕ)} {text s : List ℕ} {at : ℕ} {x : Tail} → TailOf labels text s at x → {n : ℕ} {d t : Option Range} → x ≡ inline n d t → InlineFollows s at x
 inline-only (first i) e = i
 inline-only (second l a b f) e = let z : _≡_ {A = ℕ} 0 1 = cc in absurd (omega arith)
 inline-only (third a b l f k) e = let z : _≡_ {A = ℕ} 0 1 = cc in absurd (omega arith)

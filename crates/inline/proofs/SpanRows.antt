@@ -10,14 +10,14 @@ use Rattle.scan.specs.Reading.{run}
 use Rattle.scan.proofs.Every.{run-iff}
 use Rattle.marking.specs.Marking.{Piece, Marking, Meets}
 use Rattle.marking.specs.Spans.{Span, codeSpan, linkSpan, SpanOf, spanEnd, EndsBefore, SpansAre}
-use Rattle.marking.specs.Scan.{spans}
+use Rattle.marking.specs.ReadingSpans.{spans}
 use Rattle.row.specs.declared.Range.{Range}
 use Rattle.row.specs.declared.Definition.{Definition}
 use Rattle.span.specs.Row.{numbers, codeSpanRow}
 use Rattle.inline.specs.Pieces.{backtick}
 use Rattle.inline.specs.Tails.{Tail, inline, full, collapsed, shortcut}
 use Rattle.inline.specs.Paragraph.{rules}
-use Rattle.inline.specs.Grammar.{grammar}
+use Rattle.inline.specs.Reading.{grammar}
 use Rattle.inline.specs.Rows.{wholeOf, CodeText, fromNote, RowIs, code-span, inline-link, full-reference, collapsed-reference, shortcut-reference, RowsAre, EndsIncrease, RowWithin}
 use Rattle.inline.specs.ReadingRows.{textOf, spanRow, spanRows}
 use Rattle.inline.proofs.Demand3.{the-marking, the-marking-meets, its-spans-are-read, no-other-span-list}

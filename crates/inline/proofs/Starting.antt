@@ -19,9 +19,9 @@ use Rattle.scan.specs.declared.Found.{Found}
 use Rattle.scan.specs.declared.Found.the-variants.{At, Nothing}
 use Rattle.marking.specs.Marking.{Piece}
 use Rattle.inline.specs.Pieces.{backtick, Backticks, Starts, an-escape, code-span, backticks, opening, closing, other}
-use Rattle.inline.specs.CodeSpan.{closingRun}
-use Rattle.inline.specs.Start.{piece, spanOrText, ticked, kindOf, pieceFrom, from-escape, from-backticks, from-byte}
-use Rattle.inline.specs.PieceBounds.{some-run}
+use Rattle.inline.specs.ReadingPieces.{closingRun, piece, spanOrText, ticked, kindOf, pieceFrom}
+use Rattle.inline.proofs.Turns.{from-escape, from-backticks, from-byte}
+use Rattle.inline.proofs.PieceBounds.{some-run}
 use Rattle.inline.proofs.Ticks.{ticks-end, ticks-first}
 use Rattle.inline.proofs.CodeSpans.{closingRun-iff, no-closingRun-iff}
 
@@ -61,12 +61,12 @@ module _ (p : List ℕ) where
   complete (code-span {a} {n} {b} r f) =
       record {
         inside = inside p a (first-tick p a n r);
-        from = from-run p a n r (At (b + n)) (closingRun-iff p (a + n) n (r .some) (ticks-end p a n r) (b + n) .1 (record { place = b; first = f; ends = refl }));
+        from = from-run p a n r (At (b + n)) (closingRun-iff p (a + n) n (r .nonempty) (ticks-end p a n r) (b + n) .1 (record { place = b; first = f; ends = refl }));
       }
   complete (backticks {a} {n} r f) =
       record {
         inside = inside p a (first-tick p a n r);
-        from = from-run p a n r Nothing (no-closingRun-iff p (a + n) n (r .some) (ticks-end p a n r) .1 f);
+        from = from-run p a n r Nothing (no-closingRun-iff p (a + n) n (r .nonempty) (ticks-end p a n r) .1 f);
       }
   complete (opening {a} e) = record { inside = inside p a e; from = from-mark p a e refl refl }
   complete (closing {a} e) = record { inside = inside p a e; from = from-mark p a e refl refl }
@@ -78,9 +78,9 @@ module _ (p : List ℕ) where
   module _ (a : ℕ) (h : a < length p) where
     sound-run : (n : ℕ) → Backticks p a n → (f : Found) → closingRun n (drop (a + n) p) (a + n) ≡ f → Starts p (spanOrText a (a + n) f)
     sound-run n r (At e) q =
-        let m = closingRun-iff p (a + n) n (r .some) (ticks-end p a n r) e .0 q in
+        let m = closingRun-iff p (a + n) n (r .nonempty) (ticks-end p a n r) e .0 q in
         rw (m .ends) (code-span r (m .first))
-    sound-run n r Nothing q = backticks r (no-closingRun-iff p (a + n) n (r .some) (ticks-end p a n r) .0 q)
+    sound-run n r Nothing q = backticks r (no-closingRun-iff p (a + n) n (r .nonempty) (ticks-end p a n r) .0 q)
 
     sound-byte : escapes (drop a p) ≡ false → backtick (getD p a 0) ≡ false → Starts p (piece (kindOf (getD p a 0)) a (a + 1))
     sound-byte e t =
@@ -93,7 +93,7 @@ module _ (p : List ℕ) where
         (λ e. by (backtick (getD p a 0))
         (λ t.
         let n = run backtick (drop a p) in
-        rw (from-backticks p a e t) (sound-run n (record { some = some-run p a h t; run = run-iff backtick (drop a p) n .0 refl }) (closingRun n (drop (a + n) p) (a + n)) refl))
+        rw (from-backticks p a e t) (sound-run n (record { nonempty = some-run p a h t; run = run-iff backtick (drop a p) n .0 refl }) (closingRun n (drop (a + n) p) (a + n)) refl))
         (λ t. rw (from-byte p a e t) (sound-byte e t)))
 
   pub starts-iff : (q : Piece) → Starts p q ↔ IsFrom p q

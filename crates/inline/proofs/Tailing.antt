@@ -21,9 +21,8 @@ use Rattle.target.proofs.Delimited.{front as front-byte}
 use Rattle.row.specs.First.{FirstEqual}
 use Rattle.row.specs.Reading.{firstMatch}
 use Rattle.row.proofs.First.{first-equal}
-use Rattle.inline.specs.Tails.{Tail, full, collapsed, shortcut, Inline, LabelFollows, EmptyFollows, TailOf, first, second, third, third-alone}
-use Rattle.inline.specs.Inline.{inlineOf}
-use Rattle.inline.specs.References.{labelAfter, emptyAfter, fullBy, shortBy, textTail, referenceBy, referenceOf, movedParts, tailBy, tailOf}
+use Rattle.inline.specs.Tails.{Tail, full, collapsed, shortcut, InlineFollows, LabelFollows, EmptyFollows, TailOf, first, second, third, third-alone}
+use Rattle.inline.specs.ReadingTails.{inlineOf, labelAfter, emptyAfter, fullBy, shortBy, textTail, referenceBy, referenceOf, movedParts, tailBy, tailOf}
 use Rattle.inline.specs.declared.InlineTail.{InlineTail}
 use Rattle.inline.specs.declared.InlineTail.the-variants as inlines
 use Rattle.inline.proofs.InlineComplete.{inline-read}
@@ -33,7 +32,7 @@ use Rattle.inline.proofs.InlineSound.{never-parts, inline-sound}
 module _ (s : List ℕ) (at : ℕ) where
   -- no tail of an inline link follows
   abbrev NoInline : Type 0
-  NoInline = (t : Tail) → Inline s at t → ⊥
+  NoInline = (t : Tail) → InlineFollows s at t → ⊥
 
   no-inline : NoInline → inlineOf s ≡ inlines.Nothing
   no-inline n = by-answer (inlineOf s) refl

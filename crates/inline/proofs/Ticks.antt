@@ -54,8 +54,8 @@ module _ (p : List ℕ) (a n : ℕ) where
 
   pub as-backticks : 0 < n → ((k : ℕ) → k < n → tick p (a + k) ≡ true) → tick p (a + n) ≡ false → Backticks p a n
   as-backticks h f e =
-      record { some = h; run = front-of backtick refl (drop a p) n (λ k l. rw getD-drop (f k l)) (rw getD-drop e) }
+      record { nonempty = h; run = front-of backtick refl (drop a p) n (λ k l. rw getD-drop (f k l)) (rw getD-drop e) }
 
   -- a run of backticks starts with one
   pub ticks-first : Backticks p a n → tick p a ≡ true
-  ticks-first r = rw add-zero at (ticks-in r 0 (r .some))
+  ticks-first r = rw add-zero at (ticks-in r 0 (r .nonempty))

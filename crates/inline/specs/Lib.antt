@@ -1,13 +1,9 @@
 pub mod Pieces
 pub mod Tails
 pub mod Paragraph
-pub mod CodeSpan
-pub mod Start
-pub mod Inline
-pub mod References
-pub mod PieceBounds
-pub mod TailBounds
-pub mod Grammar
 pub mod Rows
+pub mod ReadingPieces
+pub mod ReadingTails
+pub mod Reading
 pub mod ReadingRows
 pub mod Samples

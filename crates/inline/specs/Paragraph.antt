@@ -12,6 +12,6 @@ rules p labels =
     record {
       size = length p;
       Starts = Starts p;
-      Tail = λ o c t. TailOf labels (take (c - o) (drop o p)) (drop (c + 1) p) (c + 1) t;
+      TailAt = λ o c t. TailOf labels (take (c - o) (drop o p)) (drop (c + 1) p) (c + 1) t;
       lengthOf = lengthOf;
     }

@@ -14,19 +14,19 @@ backtick b = eqb b 96
 
 -- "Backticks: the whole run from there, n long": n backticks stand from place a of p on, and no other follows them
 pub record Backticks (p : List ℕ) (a n : ℕ) : Type 0 where
-  pub some : 0 < n
+  pub nonempty : 0 < n
   pub run : FrontOf backtick (drop a p) n
 
 -- "maximal run of exactly n": none stands before them either
-pub record MaximalRun (p : List ℕ) (a n : ℕ) : Type 0 where
+pub record MaximalBackticks (p : List ℕ) (a n : ℕ) : Type 0 where
   pub run : Backticks p a n
   pub starts : (k : ℕ) → a ≡ suc k → backtick (getD p k 0) ≡ false
 
 -- "a later maximal run of exactly n", from place `from` on, "the first such"
 pub record FirstRun (p : List ℕ) (from n a : ℕ) : Type 0 where
   pub later : from ≤ a
-  pub run : MaximalRun p a n
-  pub first : (b : ℕ) → from ≤ b → b < a → MaximalRun p b n → ⊥
+  pub run : MaximalBackticks p a n
+  pub first : (b : ℕ) → from ≤ b → b < a → MaximalBackticks p b n → ⊥
 
 -- bytes that start a piece of another kind than plain text
 abbrev pub marks : ℕ → Bool
@@ -43,7 +43,7 @@ pub data Starts (p : List ℕ) : Piece → Type 0 where
   -- "If a later maximal run of exactly n exists in the paragraph, a code span to the end of the first such"
   code-span : {a n b : ℕ} → Backticks p a n → FirstRun p (a + n) n b → Starts p (record { kind = code; start = a; end = b + n })
   -- "otherwise plain"
-  backticks : {a n : ℕ} → Backticks p a n → ((b : ℕ) → a + n ≤ b → MaximalRun p b n → ⊥) → Starts p (record { kind = plain; start = a; end = a + n })
+  backticks : {a n : ℕ} → Backticks p a n → ((b : ℕ) → a + n ≤ b → MaximalBackticks p b n → ⊥) → Starts p (record { kind = plain; start = a; end = a + n })
   -- "`[` opens, `]` closes, any other byte is plain: each a piece of one byte."
   opening : {a : ℕ} → getD p a 0 ≡ 91 → Starts p (record { kind = opens; start = a; end = a + 1 })
   closing : {a : ℕ} → getD p a 0 ≡ 93 → Starts p (record { kind = closes; start = a; end = a + 1 })

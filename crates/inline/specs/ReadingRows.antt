@@ -5,7 +5,7 @@ use lib.ListN.{drop}
 use Rattle.scan.specs.Reading.{run}
 use Rattle.marking.specs.Spans as marked
 use Rattle.marking.specs.Spans.{codeSpan, linkSpan}
-use Rattle.marking.specs.Scan.{spans}
+use Rattle.marking.specs.ReadingSpans.{spans}
 use Rattle.row.specs.declared.Range.{Range}
 use Rattle.row.specs.declared.Definition.{Definition}
 use Rattle.row.specs.Row.{range}
@@ -13,7 +13,7 @@ use Rattle.span.specs.declared.Span.{Span}
 use Rattle.span.specs.Row.{span, numbers, codeSpanKind, inlineKind, fullKind, collapsedKind, shortcutKind}
 use Rattle.inline.specs.Pieces.{backtick}
 use Rattle.inline.specs.Tails.{Tail, inline, full, collapsed, shortcut}
-use Rattle.inline.specs.Grammar.{grammar}
+use Rattle.inline.specs.Reading.{grammar}
 use Rattle.inline.specs.Rows.{Target, wholeOf, linkText, fromNote, targetOf}
 
 abbrev pub kindNumber : marked.Span Tail → ℕ

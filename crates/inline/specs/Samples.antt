@@ -12,14 +12,12 @@ use Rattle.label.specs.Reading.{inky, fitsAfter, fits, labelEnd, unclosed, isLa
 use Rattle.target.specs.Reading.{spaceFrom, depthAfter, rawStep, rawRun, judged, destinationOf, closer, titleOf}
 use Rattle.matching.specs.Form.{fold}
 use Rattle.matching.specs.Reading.{spaced, formOf, compared, equals, matches}
-use Rattle.marking.specs.Scan.{spans, finish, scan, scanStep, scanFound, scanStart}
+use Rattle.marking.specs.ReadingSpans.{spans, finish, scan, scanStep, scanFound, scanStart}
 use Rattle.row.specs.declared.Definition.{Definition}
 use Rattle.row.specs.Row.{range, absent}
 use Rattle.row.specs.Reading.{matchFrom}
-use Rattle.inline.specs.CodeSpan.{countAfter, runStep, runDone, closingRun}
-use Rattle.inline.specs.Start.{pieceFrom}
-use Rattle.inline.specs.Inline.{closedAt, afterDestination, inlineOf}
-use Rattle.inline.specs.References.{labelAfter, textTail, tailOf}
+use Rattle.inline.specs.ReadingPieces.{countAfter, runStep, runDone, closingRun, pieceFrom}
+use Rattle.inline.specs.ReadingTails.{closedAt, afterDestination, inlineOf, labelAfter, textTail, tailOf}
 use Rattle.inline.specs.ReadingRows.{spanRows}
 
 -- a paragraph at place 1000 of the note, the labels of the definitions, and the rows

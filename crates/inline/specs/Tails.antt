@@ -53,13 +53,13 @@ pub record Closes (s rest : List ℕ) : Type 0 where
 
 -- "1. `(`, optional space, optionally a destination and after it optionally at least one byte of space and a title, optional space, `)`: inline."
 -- s starts at place `at`, and rest follows the tail
-pub data Inline (s : List ℕ) (at : ℕ) : Tail → Type 0 where
-  empty : (body rest : List ℕ) → Opens s body → Closes body rest → Inline s at (inline (length s - length rest) none none)
+pub data InlineFollows (s : List ℕ) (at : ℕ) : Tail → Type 0 where
+  empty : (body rest : List ℕ) → Opens s body → Closes body rest → InlineFollows s at (inline (length s - length rest) none none)
   untitled : (body content more rest : List ℕ) (from : ℕ) → Opens s body → Destination body from content more → Closes more rest
-      → Inline s at (inline (length s - length rest) (some (part (placeOf at s body + from) (length content))) none)
+      → InlineFollows s at (inline (length s - length rest) (some (part (placeOf at s body + from) (length content))) none)
   titled : (body content more quoted content′ after rest : List ℕ) (from : ℕ) → Opens s body → Destination body from content more
       → Apart more quoted → Title quoted content′ after → Closes after rest
-      → Inline s at (inline (length s - length rest) (some (part (placeOf at s body + from) (length content))) (some (part (placeOf at s quoted + 1) (length content′))))
+      → InlineFollows s at (inline (length s - length rest) (some (part (placeOf at s body + from) (length content))) (some (part (placeOf at s quoted + 1) (length content′))))
 
 -- "2. `[`, a label, `]`"
 pub record LabelFollows (s label : List ℕ) : Type 0 where
@@ -74,12 +74,12 @@ pub record EmptyFollows (s : List ℕ) : Type 0 where
 
 -- The tail of a pair, "first match only": `text` stands between the brackets, s after them, at place `at`; the labels are those of the definitions, in order
 pub data TailOf (labels : List (List ℕ)) (text s : List ℕ) (at : ℕ) : Tail → Type 0 where
-  first : {t : Tail} → Inline s at t → TailOf labels text s at t
+  first : {t : Tail} → InlineFollows s at t → TailOf labels text s at t
   -- "full if defined, that is, if some definition has an equal label; if not, there is no tail at all"
-  second : (label : List ℕ) {k : ℕ} → ((t : Tail) → Inline s at t → ⊥) → LabelFollows s label → FirstEqual labels label k
+  second : (label : List ℕ) {k : ℕ} → ((t : Tail) → InlineFollows s at t → ⊥) → LabelFollows s label → FirstEqual labels label k
       → TailOf labels text s at (full (length label + 2) k)
   -- "3. The text between the brackets is a defined label: collapsed if `[]` follows (the tail), else shortcut, empty tail."
-  third : {k : ℕ} → ((t : Tail) → Inline s at t → ⊥) → ((label : List ℕ) → LabelFollows s label → ⊥) → IsLabel text → FirstEqual labels text k
+  third : {k : ℕ} → ((t : Tail) → InlineFollows s at t → ⊥) → ((label : List ℕ) → LabelFollows s label → ⊥) → IsLabel text → FirstEqual labels text k
       → EmptyFollows s → TailOf labels text s at (collapsed k)
-  third-alone : {k : ℕ} → ((t : Tail) → Inline s at t → ⊥) → ((label : List ℕ) → LabelFollows s label → ⊥) → IsLabel text → FirstEqual labels text k
+  third-alone : {k : ℕ} → ((t : Tail) → InlineFollows s at t → ⊥) → ((label : List ℕ) → LabelFollows s label → ⊥) → IsLabel text → FirstEqual labels text k
       → (EmptyFollows s → ⊥) → TailOf labels text s at (shortcut k)

@@ -4,17 +4,18 @@ use mathlib.Core.Logic.{_↔_, _≢_}
 use mathlib.Core.Option.{some, Option·some-injective}
 use Prim.Native.Nat.{ℕ, suc}
 use Rattle.marking.specs.Marking.{Role, closing, trailing, role, Piece, Rules, Marking, At, Tiles, Paired, tailPiece, HasTail, Linked, Meets}
-use Rattle.marking.specs.Grammar.{Grammar, Computed, Computes, rulesOf}
+use Rattle.marking.specs.ReadingRules.{Grammar, Computed, Computes}
 use Rattle.marking.proofs.Roles.{closing≢trailing}
 use Rattle.marking.proofs.Tiles.{tiles-order}
 use Rattle.marking.proofs.Pairs.{link-pair}
+use Rattle.marking.proofs.Sound.{rulesOf}
 
 closing-is-no-tail : (x : Role) → x ≡ closing → x ≢ trailing
 closing-is-no-tail x e e′ = closing≢trailing (sym e ∙ e′)
 
 -- a link by the rules r is one by r′, if its tail is
 with-tail-of : {T : Type 0} (r r′ : Rules T) (m : Marking T) (i j : ℕ) (t : T)
-    → ((o c : Piece) → At (m .pieces) i o → At (m .pieces) j c → r .Tail (o .end) (c .start) t → r′ .Tail (o .end) (c .start) t) → Linked r m i j t → Linked r′ m i j t
+    → ((o c : Piece) → At (m .pieces) i o → At (m .pieces) j c → r .TailAt (o .end) (c .start) t → r′ .TailAt (o .end) (c .start) t) → Linked r m i j t → Linked r′ m i j t
 with-tail-of r r′ m i j t same l =
     let h : HasTail r (m .pieces) i j t = l .has-tail in
     record {
@@ -35,7 +36,7 @@ module _ {T : Type 0} (r : Rules T) (g : Grammar T) (w : Computes r g) (m : Mark
   Kinds = (k : ℕ) (q : Piece) → At (m .pieces) k q → role (q .kind) ≢ trailing → Computed g q
 
   module _ (b : ℕ) (tiled : Tiles 0 (m .pieces) b) (kinds : Kinds) (i j : ℕ) (t : T) (p : Paired (m .pieces) i j) where
-    same-tail : (o c : Piece) → At (m .pieces) i o → At (m .pieces) j c → r .Tail (o .end) (c .start) t ↔ (g .tailAt (o .end) (c .start) ≡ some t)
+    same-tail : (o c : Piece) → At (m .pieces) i o → At (m .pieces) j c → r .TailAt (o .end) (c .start) t ↔ (g .tailAt (o .end) (c .start) ≡ some t)
     same-tail o c ao ac =
         let e : p .closed .piece ≡ c = Option·some-injective (p .closed .piece) c (sym (p .closed .at) ∙ ac) in
         let cl : role (c .kind) ≡ closing = ap (λ (y : Piece). role (y .kind)) (sym e) ∙ p .closed .as-role in

@@ -11,12 +11,13 @@ use Rattle.marking.specs.Marking.{Piece, Rules, Marking, At, Paired, tai
 use Rattle.marking.specs.Spans.{Span, codeSpan, linkSpan, spanEnd, EndsBefore, SpansAre}
 use Rattle.marking.specs.Open.{NeverOver, FirstOver}
 use Rattle.marking.specs.Claims.{ExactlyOne, OnePairAtMost, PairsNest, NoLinkHoldsALink, LinksApart, TailsOnlyAfterLinks}
-use Rattle.marking.specs.Grammar.{Grammar, Computes, rulesOf}
+use Rattle.marking.specs.ReadingRules.{Grammar, Computes}
 use Rattle.marking.specs.Reading.{reading}
-use Rattle.marking.specs.Scan.{spans, over}
+use Rattle.marking.specs.ReadingSpans.{spans, over}
 use Rattle.marking.proofs.Sorted.{sorted-same}
 use Rattle.marking.proofs.Pairs.{link-pair, one-partner}
 use Rattle.marking.proofs.PairOrder.{one-closing-piece, apart-or-nested}
+use Rattle.marking.proofs.Sound.{Sound, rulesOf}
 use Rattle.marking.proofs.Unique.{unique, not-both}
 use Rattle.marking.proofs.Exists.{exists}
 use Rattle.marking.proofs.Simulates.{spans-are-reading}
@@ -71,12 +72,12 @@ spans-unique r m xs ys a b =
 
 -- ---- where a grammar computes what the bytes say
 
-module _ {T : Type 0} (r : Rules T) (g : Grammar T) (w : Computes r g) where
+module _ {T : Type 0} (r : Rules T) (g : Grammar T) (w : Computes r g) (sd : Sound g) where
   pub reading-meets : Meets r (reading g)
-  reading-meets = same-conditions r g w (reading g) .1 (exists g)
+  reading-meets = same-conditions r g w (reading g) .1 (exists g sd)
 
   pub is-reading : (m : Marking T) → Meets r m → m ≡ reading g
-  is-reading m c = unique g m (reading g) (same-conditions r g w m .0 c) (exists g)
+  is-reading m c = unique g m (reading g) (same-conditions r g w m .0 c) (exists g sd)
 
   pub exactly-one : ExactlyOne r
   exactly-one = record { the-marking = reading g; meets = reading-meets; no-other = is-reading; every-other-breaks = λ m ne c. ne (is-reading m c) }
@@ -87,11 +88,11 @@ module _ {T : Type 0} (r : Rules T) (g : Grammar T) (w : Computes r g) where
 
   pub spans-of-any : (m : Marking T) → Meets r m → SpansAre r m (spans g)
   spans-of-any m c =
-      let a : SpansAre (rulesOf g) m (spans g) = subst (λ (y : Marking T). SpansAre (rulesOf g) y (spans g)) (sym (is-reading m c)) (spans-are-reading g) in
+      let a : SpansAre (rulesOf g) m (spans g) = subst (λ (y : Marking T). SpansAre (rulesOf g) y (spans g)) (sym (is-reading m c)) (spans-are-reading g sd) in
       record { each = a .each; no-others = a .no-others; in-order = λ k x y p q. omega (arith, a .in-order k x y p q, same-end x, same-end y) }
 
   told : (limit : ℕ) (m : Marking T) → Meets r m → Told limit m (over limit g)
-  told limit m c = subst (λ (y : Marking T). Told limit y (over limit g)) (sym (is-reading m c)) (over-told limit g)
+  told limit m c = subst (λ (y : Marking T). Told limit y (over limit g)) (sym (is-reading m c)) (over-told limit g sd)
 
   pub over-first : (limit : ℕ) (m : Marking T) → Meets r m → (p : ℕ) → (over limit g ≡ some p) ↔ FirstOver limit m p
   over-first limit m c p = (told limit m c .first p, λ f. back f (over limit g) refl)

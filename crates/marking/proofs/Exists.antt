@@ -9,16 +9,18 @@ use lib.ListN.{getD}
 use borrow.Author.Tests.{ltb-true, ltb-false}
 use Rattle.marking.specs.Marking.{Role, nothing, opening, closing, trailing, role, Meets}
 use Rattle.marking.specs.Spans.{Span, codeSpan, linkSpan, SpanOf}
-use Rattle.marking.specs.Grammar.{Grammar, rulesOf, MeetsTo}
+use Rattle.marking.specs.ReadingRules.{Grammar}
 use Rattle.marking.specs.Reading.{State, pieceAt, blank, foundBy, placeAfter, extend, found, step, run, start, reading}
 use Rattle.marking.proofs.Roles.{nothing≢closing, opening≢closing, trailing≢closing}
 use Rattle.marking.proofs.Stack.{StackOf, stack-start}
+use Rattle.marking.proofs.Sound.{Sound, rulesOf, MeetsTo}
 use Rattle.marking.proofs.Next.{FoundIs}
 use Rattle.marking.proofs.Extend.{extended}
 use Rattle.marking.proofs.Found.{LastLink, found-alone, found-closing, further, stack-further, last-bounds, last-link-is}
 use Rattle.marking.proofs.SpanStep.{SpansTo, spans-extended}
 
 pub record Inv {T : Type 0} (g : Grammar T) (s : State T) : Type 0 where
+  pub sound : Sound g
   pub meets : MeetsTo g (s .place) (s .marking)
   pub bound : s .place ≤ g .size
   pub stack-is : StackOf (s .marking .pieces) (s .stack)
@@ -40,17 +42,18 @@ pub step-inv : {T : Type 0} (g : Grammar T) (s : State T) → Inv g s → s .pla
 unfolding step extend
 step-inv g s v h =
     let fi : FoundIs g (s .marking) (pieceAt g (s .place)) (found g s) = found-is g s v in
-    let w : (s .place < placeAfter g (pieceAt g (s .place)) (found g s)) × (placeAfter g (pieceAt g (s .place)) (found g s) ≤ g .size) = further g (s .marking) (s .place) (v .meets) h (found g s) fi in (
+    let w : (s .place < placeAfter g (pieceAt g (s .place)) (found g s)) × (placeAfter g (pieceAt g (s .place)) (found g s) ≤ g .size) = further g (v .sound) (s .marking) (s .place) (v .meets) h (found g s) fi in (
       record {
-        meets = extended g (s .marking) (s .place) (v .meets) h (found g s) fi;
+        sound = v .sound;
+        meets = extended g (v .sound) (s .marking) (s .place) (v .meets) h (found g s) fi;
         bound = w .1;
-        stack-is = stack-further g (s .marking) (s .place) (v .meets) h (found g s) (s .stack) (v .stack-is);
+        stack-is = stack-further g (v .sound) (s .marking) (s .place) (v .meets) h (found g s) (s .stack) (v .stack-is);
         last-is =
             record {
-              bounds = last-bounds g (s .marking) (s .place) (v .meets) h (s .last-link) (v .last-is) (found g s) fi;
-              is-link = last-link-is g (s .marking) (s .place) (v .meets) h (s .last-link) (v .last-is) (found g s) fi;
+              bounds = last-bounds g (v .sound) (s .marking) (s .place) (v .meets) h (s .last-link) (v .last-is) (found g s) fi;
+              is-link = last-link-is g (v .sound) (s .marking) (s .place) (v .meets) h (s .last-link) (v .last-is) (found g s) fi;
             };
-        spans-are = spans-extended g (s .marking) (s .place) (v .meets) h (found g s) fi (s .spans) (v .spans-are);
+        spans-are = spans-extended g (v .sound) (s .marking) (s .place) (v .meets) h (found g s) fi (s .spans) (v .spans-are);
       },
       w .0,
     )
@@ -62,10 +65,11 @@ unfolding start
 no-span (codeSpan q) s = Option·none-ne-some q (s .at)
 no-span (linkSpan o c t) s = Option·none-ne-some t (s .linked)
 
-pub start-inv : {T : Type 0} (g : Grammar T) → Inv g start
+pub start-inv : {T : Type 0} (g : Grammar T) → Sound g → Inv g start
 unfolding start
-start-inv g =
+start-inv g sd =
     record {
+      sound = sd;
       meets =
           record {
             tiled = refl;
@@ -104,8 +108,8 @@ unfolding run
 run-inv zero g s v h = (v, omega (arith, v .bound))
 run-inv (suc n) g s v h = run-suc n g s v h (λ s′ v′ h′. run-inv n g s′ v′ h′)
 
-pub exists : {T : Type 0} (g : Grammar T) → Meets (rulesOf g) (reading g)
+pub exists : {T : Type 0} (g : Grammar T) → Sound g → Meets (rulesOf g) (reading g)
 unfolding reading
-exists g =
-    let w : Inv g (run (g .size) g start) × (run (g .size) g start .place ≡ g .size) = run-inv (g .size) g start (start-inv g) (omega arith) in
+exists g sd =
+    let w : Inv g (run (g .size) g start) × (run (g .size) g start .place ≡ g .size) = run-inv (g .size) g start (start-inv g sd) (omega arith) in
     subst (λ (b : ℕ). MeetsTo g b (run (g .size) g start .marking)) (w .1) (w .0 .meets)

@@ -10,16 +10,17 @@ use native.Mathlib.Omega.{arith}
 use lib.ListN.{length, take, getElem?}
 use lib.Seq.{take-append-seam, take-length}
 use Rattle.marking.specs.Marking.{closing, trailing, role, Piece, Marking, At, Tiles, Paired, tailPiece, FollowsLink, Linked}
-use Rattle.marking.specs.Grammar.{Grammar, Computed, upTo, MeetsTo}
-use Rattle.marking.specs.Reading.{Found, alone, paired, linked, pairColumn, linkColumn, pieceAt, extra, placeAfter, extend}
+use Rattle.marking.specs.ReadingRules.{Grammar, Computed}
+use Rattle.marking.specs.Reading.{Match, alone, paired, linked, pairColumn, linkColumn, pieceAt, extra, placeAfter, extend}
 use Rattle.marking.proofs.Lists.{at-inside, at-left, at-seam, at-back}
 use Rattle.marking.proofs.Roles.{trailing≢closing}
 use Rattle.marking.proofs.Tiles.{tiles-append}
 use Rattle.marking.proofs.Pairs.{LastBalanced, partner, pair-of, paired-local, pair-inside, link-pair}
+use Rattle.marking.proofs.Sound.{Sound, upTo, MeetsTo}
 use Rattle.marking.proofs.Unique.{tail-local, not-both, none-of}
 use Rattle.marking.proofs.Next.{OldOrNew, LinkFound, FoundIs, Stands, earlier, here, after, stands, at-tail, link-column, own-link, ext-links-old, ext-links-new, ext-pairs-old, ext-pairs-new}
 
-module _ {T : Type 0} (g : Grammar T) (m : Marking T) (b : ℕ) (c : MeetsTo g b m) (inside : b < g .size) (f : Found T) (fi : FoundIs g m (pieceAt g b) f) where
+module _ {T : Type 0} (g : Grammar T) (sd : Sound g) (m : Marking T) (b : ℕ) (c : MeetsTo g b m) (inside : b < g .size) (f : Match T) (fi : FoundIs g m (pieceAt g b) f) where
   -- the next piece, what it adds, where the pieces then end, and the marking then
   abbrev next : Piece
   next = pieceAt g b
@@ -33,10 +34,10 @@ module _ {T : Type 0} (g : Grammar T) (m : Marking T) (b : ℕ) (c : MeetsTo g b
   abbrev grown : Marking T
   grown = extend g m next f
 
-  new-tiled : (f : Found T) → Tiles b (next ∷ extra g next f) (placeAfter g next f)
-  new-tiled alone = (refl, omega (arith, g .grows b inside), refl)
-  new-tiled (paired i) = (refl, omega (arith, g .grows b inside), refl)
-  new-tiled (linked i t) = (refl, omega (arith, g .grows b inside), (refl, omega arith, refl))
+  new-tiled : (f : Match T) → Tiles b (next ∷ extra g next f) (placeAfter g next f)
+  new-tiled alone = (refl, omega (arith, sd .grows b inside), refl)
+  new-tiled (paired i) = (refl, omega (arith, sd .grows b inside), refl)
+  new-tiled (linked i t) = (refl, omega (arith, sd .grows b inside), (refl, omega arith, refl))
 
   ext-tiled : Tiles 0 (grown .pieces) reached
   unfolding extend
@@ -62,9 +63,9 @@ module _ {T : Type 0} (g : Grammar T) (m : Marking T) (b : ℕ) (c : MeetsTo g b
       by (earlier a′ h) =
           let d : FollowsLink m k = c .no-other-tails k x a′ r in
           record { from = d .from; to = d .to; with-tail = d .with-tail; linked = ext-links-old g m next f (d .from) (d .to) (omega (arith, d .next)) ∙ d .linked; next = d .next }
-      by (here e e′) = absurd (g .no-tail b inside (ap (λ (y : Piece). role (y .kind)) (sym e′) ∙ r))
+      by (here e e′) = absurd (sd .no-tail b inside (ap (λ (y : Piece). role (y .kind)) (sym e′) ∙ r))
       by (after i t e e′ e″) =
-          record { from = i; to = length (m .pieces); with-tail = t; linked = ext-links-new g m next f i ∙ ap (λ (y : Found T). linkColumn y i) e ∙ own-link i t; next = e′ }
+          record { from = i; to = length (m .pieces); with-tail = t; linked = ext-links-new g m next f i ∙ ap (λ (y : Match T). linkColumn y i) e ∙ own-link i t; next = e′ }
 
   ext-tails : (i j : ℕ) (t : T) (x : Piece) → grown .links i j ≡ some t → At (grown .pieces) j x
       → At (grown .pieces) (suc j) (tailPiece x (g .lengthOf t))

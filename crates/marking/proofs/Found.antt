@@ -11,10 +11,11 @@ use lib.Dec.{eqb, ltb}
 use lib.ListN.{length, getD}
 use borrow.Author.Tests.{eqb-true, eq-eqb, ltb-true, ltb-false}
 use Rattle.marking.specs.Marking.{opening, closing, trailing, role, Piece, Marking, At, Plays, tailPiece}
-use Rattle.marking.specs.Grammar.{Grammar, MeetsTo}
-use Rattle.marking.specs.Reading.{Found, alone, paired, linked, linkColumn, pieceAt, blank, withTail, foundClosing, stackBy, extra, placeAfter, lastAfter, extend}
+use Rattle.marking.specs.ReadingRules.{Grammar}
+use Rattle.marking.specs.Reading.{Match, alone, paired, linked, linkColumn, pieceAt, blank, withTail, foundClosing, stackBy, extra, placeAfter, lastAfter, extend}
 use Rattle.marking.proofs.Pairs.{LastBalanced, pair-inside, link-pair}
 use Rattle.marking.proofs.Stack.{StackOf, stack-step, top-is}
+use Rattle.marking.proofs.Sound.{Sound, MeetsTo}
 use Rattle.marking.proofs.Unique.{not-both, none-of}
 use Rattle.marking.proofs.Next.{LinkFound, FoundIs, link-column, own-link, ext-links-old, ext-links-new}
 
@@ -107,15 +108,15 @@ module _ {T : Type 0} (g : Grammar T) (m : Marking T) (b : ℕ) (last-link : ℕ
 
 -- ---- one step
 
-module _ {T : Type 0} (g : Grammar T) (m : Marking T) (b : ℕ) (c : MeetsTo g b m) (inside : b < g .size) where
-  pub further : (f : Found T) → FoundIs g m (pieceAt g b) f → (b < placeAfter g (pieceAt g b) f) × (placeAfter g (pieceAt g b) f ≤ g .size)
-  further alone fi = (g .grows b inside, g .within b inside)
-  further (paired i) fi = (g .grows b inside, g .within b inside)
+module _ {T : Type 0} (g : Grammar T) (sd : Sound g) (m : Marking T) (b : ℕ) (c : MeetsTo g b m) (inside : b < g .size) where
+  pub further : (f : Match T) → FoundIs g m (pieceAt g b) f → (b < placeAfter g (pieceAt g b) f) × (placeAfter g (pieceAt g b) f ≤ g .size)
+  further alone fi = (sd .grows b inside, sd .within b inside)
+  further (paired i) fi = (sd .grows b inside, sd .within b inside)
   further (linked i t) fi =
       let l : LinkFound g m (pieceAt g b) i t = fi .link-found i t .0 (own-link i t) .1 in
-      (omega (arith, g .grows b inside), g .tail-within (l .open-piece .end) b t inside (fi .pair-found i .0 (fi .link-found i t .0 (own-link i t) .0) .0) (l .reads))
+      (omega (arith, sd .grows b inside), sd .tail-within (l .open-piece .end) b t inside (fi .pair-found i .0 (fi .link-found i t .0 (own-link i t) .0) .0) (l .reads))
 
-  pub stack-further : (f : Found T) (st : List ℕ) → StackOf (m .pieces) st
+  pub stack-further : (f : Match T) (st : List ℕ) → StackOf (m .pieces) st
       → StackOf (m .pieces ++ pieceAt g b ∷ extra g (pieceAt g b) f) (stackBy (length (m .pieces)) st (role (g .kindAt b)))
   stack-further alone st s = stack-step (role (g .kindAt b)) (m .pieces) (pieceAt g b) st refl s
   stack-further (paired i) st s = stack-step (role (g .kindAt b)) (m .pieces) (pieceAt g b) st refl s
@@ -124,11 +125,11 @@ module _ {T : Type 0} (g : Grammar T) (m : Marking T) (b : ℕ) (c : MeetsTo g b
       (stack-step trailing (m .pieces ++ pieceAt g b ∷ []) (tailPiece (pieceAt g b) (g .lengthOf t)) (stackBy (length (m .pieces)) st (role (g .kindAt b))) refl
       (stack-step (role (g .kindAt b)) (m .pieces) (pieceAt g b) st refl s))
 
-  pub last-bounds : (last-link : ℕ) → LastLink m last-link → (f : Found T) (fi : FoundIs g m (pieceAt g b) f) (i j : ℕ) (t : T)
+  pub last-bounds : (last-link : ℕ) → LastLink m last-link → (f : Match T) (fi : FoundIs g m (pieceAt g b) f) (i j : ℕ) (t : T)
       → extend g m (pieceAt g b) f .links i j ≡ some t → i ≤ lastAfter last-link f
   last-bounds last-link ll f fi i j t l = by (ℕ-discrete j (length (m .pieces)))
     where
-      old : (f : Found T) → FoundIs g m (pieceAt g b) f → m .links i j ≡ some t → i ≤ lastAfter last-link f
+      old : (f : Match T) → FoundIs g m (pieceAt g b) f → m .links i j ≡ some t → i ≤ lastAfter last-link f
       old alone fi′ h = ll .bounds i j t h
       old (paired a) fi′ h = ll .bounds i j t h
       old (linked a u) fi′ h =
@@ -141,7 +142,7 @@ module _ {T : Type 0} (g : Grammar T) (m : Marking T) (b : ℕ) (c : MeetsTo g b
           rw w (omega arith)
       by (no ne) = old f fi (sym (ext-links-old g m (pieceAt g b) f i j ne) ∙ l)
 
-  pub last-link-is : (last-link : ℕ) → LastLink m last-link → (f : Found T) (fi : FoundIs g m (pieceAt g b) f) → 0 < lastAfter last-link f
+  pub last-link-is : (last-link : ℕ) → LastLink m last-link → (f : Match T) (fi : FoundIs g m (pieceAt g b) f) → 0 < lastAfter last-link f
       → (j : ℕ) × (t : T) × (extend g m (pieceAt g b) f .links (lastAfter last-link f) j ≡ some t)
   last-link-is last-link ll f fi h = by f refl h
     where
@@ -151,7 +152,7 @@ module _ {T : Type 0} (g : Grammar T) (m : Marking T) (b : ℕ) (c : MeetsTo g b
           let z : w .0 < length (m .pieces) = pair-inside (link-pair c last-link (w .0) (w .1) (w .2)) in
           (w .0, w .1, ext-links-old g m (pieceAt g b) f last-link (w .0) (omega arith) ∙ w .2)
 
-      by : (f′ : Found T) → f ≡ f′ → 0 < lastAfter last-link f′ → (j : ℕ) × (t : T) × (extend g m (pieceAt g b) f .links (lastAfter last-link f′) j ≡ some t)
+      by : (f′ : Match T) → f ≡ f′ → 0 < lastAfter last-link f′ → (j : ℕ) × (t : T) × (extend g m (pieceAt g b) f .links (lastAfter last-link f′) j ≡ some t)
       by alone ef h′ = old h′
       by (paired i) ef h′ = old h′
-      by (linked i t) ef h′ = (length (m .pieces), t, ext-links-new g m (pieceAt g b) f i ∙ ap (λ (y : Found T). linkColumn y i) ef ∙ own-link i t)
+      by (linked i t) ef h′ = (length (m .pieces), t, ext-links-new g m (pieceAt g b) f i ∙ ap (λ (y : Match T). linkColumn y i) ef ∙ own-link i t)

@@ -6,6 +6,8 @@ pub mod Tiles
 pub mod Pairs
 pub mod Stack
 pub mod PairOrder
+-- what a grammar keeps to
+pub mod Sound
 -- at most one marking meets the conditions
 pub mod Unique
 -- the reading makes one that does, with its spans
@@ -25,4 +27,3 @@ pub mod Over
 -- the theorems
 pub mod Computes
 pub mod Demand3
-pub mod Samples

@@ -9,7 +9,7 @@ use native.Mathlib.Decide.{ℕ-discrete}
 use native.Mathlib.Omega.{arith}
 use lib.ListN.{length, getElem?}
 use Rattle.marking.specs.Marking.{Role, nothing, opening, closing, trailing, role, Piece, Marking, Plays}
-use Rattle.marking.specs.Spans.{In}
+use Rattle.scan.specs.Member.{In}
 use Rattle.marking.specs.Open.{count, any, isOpening, opensBy, opensAt, openedBefore, pairedBefore, openBrackets}
 use Rattle.marking.proofs.Sorted.{in-cases, in-later, in-none, sorted-same}
 

@@ -8,19 +8,20 @@ use Prim.Native.Nat.{ℕ, zero, suc, _<_}
 use native.Mathlib.Omega.{arith}
 use lib.ListN.{length, getElem?, length-append}
 use Rattle.marking.specs.Marking.{Role, nothing, opening, closing, trailing, role, Piece, Marking}
-use Rattle.marking.specs.Spans.{In}
-use Rattle.marking.specs.Grammar.{Grammar, MeetsTo}
-use Rattle.marking.specs.Reading.{Found, State, pairColumn, pieceAt, extra, stackBy, extend, found, step}
+use Rattle.scan.specs.Member.{In}
+use Rattle.marking.specs.ReadingRules.{Grammar}
+use Rattle.marking.specs.Reading.{Match, State, pairColumn, pieceAt, extra, stackBy, extend, found, step}
 use Rattle.marking.proofs.Lists.{at-left, at-seam}
 use Rattle.marking.proofs.Sorted.{in-cases, in-later, in-none, head-first}
 use Rattle.marking.proofs.Roles.{nothing≢opening, nothing≢closing, opening≢closing, closing≢opening, trailing≢opening, trailing≢closing}
 use Rattle.marking.proofs.Stack.{StackOf, top-is}
+use Rattle.marking.proofs.Sound.{Sound, MeetsTo}
 use Rattle.marking.proofs.Next.{OldOrNew, FoundIs, ext-pairs-old, ext-pairs-new, Stands, earlier, here, after, stands}
 use Rattle.marking.proofs.Extend.{pair-cases, ext-pairs}
 use Rattle.marking.proofs.Exists.{Inv, found-is}
 use Rattle.marking.proofs.OpenList.{OpenAt, OpenAre}
 
-module _ {T : Type 0} (g : Grammar T) (m : Marking T) (b : ℕ) (c : MeetsTo g b m) (inside : b < g .size) (f : Found T) (fi : FoundIs g m (pieceAt g b) f) where
+module _ {T : Type 0} (g : Grammar T) (sd : Sound g) (m : Marking T) (b : ℕ) (c : MeetsTo g b m) (inside : b < g .size) (f : Match T) (fi : FoundIs g m (pieceAt g b) f) where
   abbrev next : Piece
   next = pieceAt g b
 
@@ -56,7 +57,7 @@ module _ {T : Type 0} (g : Grammar T) (m : Marking T) (b : ℕ) (c : MeetsTo g b
 
   pub pairs-cases : (i j : ℕ) → grown .pairs i j ≡ true → OldOrNew (m .pieces) f i j
   unfolding extend
-  pairs-cases i j p = pair-cases g m b c inside f fi i j (ext-pairs g m b c inside f fi i j .0 p)
+  pairs-cases i j p = pair-cases g sd m b c inside f fi i j (ext-pairs g sd m b c inside f fi i j .0 p)
 
   open-join : (i : ℕ) → OpenAt m (length (m .pieces)) i → (pairColumn f i ≡ true → ⊥) → OpenAt grown (length (m .pieces ++ added)) i
   unfolding extend
@@ -77,7 +78,7 @@ module _ {T : Type 0} (g : Grammar T) (m : Marking T) (b : ℕ) (c : MeetsTo g b
       record {
         bracket = record { piece = next; at = at-seam (m .pieces) next (extra g next f); as-role = e };
         before = longer;
-        unpaired = λ j hj p. by j (ext-pairs g m b c inside f fi (length (m .pieces)) j .0 p .before) (pairs-cases (length (m .pieces)) j p);
+        unpaired = λ j hj p. by j (ext-pairs g sd m b c inside f fi (length (m .pieces)) j .0 p .before) (pairs-cases (length (m .pieces)) j p);
       }
     where
       by : (j : ℕ) → length (m .pieces) < j → OldOrNew (m .pieces) f (length (m .pieces)) j → ⊥
@@ -160,4 +161,4 @@ module _ {T : Type 0} (g : Grammar T) (m : Marking T) (b : ℕ) (c : MeetsTo g b
 pub open-step : {T : Type 0} (g : Grammar T) (s : State T) → Inv g s → s .place < g .size
     → OpenAre (s .marking) (length (s .marking .pieces)) (s .stack) → OpenAre (step g s .marking) (length (step g s .marking .pieces)) (step g s .stack)
 unfolding step extend
-open-step g s v h a = open-next g (s .marking) (s .place) (v .meets) h (found g s) (found-is g s v) (role (g .kindAt (s .place))) refl (s .stack) (v .stack-is) a
+open-step g s v h a = open-next g (v .sound) (s .marking) (s .place) (v .meets) h (found g s) (found-is g s v) (role (g .kindAt (s .place))) refl (s .stack) (v .stack-is) a

@@ -13,11 +13,12 @@ use lib.Seq.{take-append-seam, take-length}
 use borrow.Author.Tests.{ltb-true, ltb-false, leb-true, leb-false, lt-ltb, le-ltb}
 use Rattle.marking.specs.Marking.{Role, nothing, opening, closing, trailing, role, Piece, Marking, Plays}
 use Rattle.marking.specs.Open.{openedBefore, pairedBefore, openBrackets, NeverOver, FirstOver}
-use Rattle.marking.specs.Grammar.{Grammar}
+use Rattle.marking.specs.ReadingRules.{Grammar}
 use Rattle.marking.specs.Reading.{State, pieceAt, extra, stackBy, extend, found, step, run, start, reading}
-use Rattle.marking.specs.Scan.{scanStart, tooDeep, overAt, overWithin, overs, over}
+use Rattle.marking.specs.ReadingSpans.{scanStart, tooDeep, overAt, overWithin, overs, over}
 use Rattle.marking.proofs.Lists.{at-seam, same-at}
 use Rattle.marking.proofs.Roles.{trailing≢opening}
+use Rattle.marking.proofs.Sound.{Sound}
 use Rattle.marking.proofs.Next.{OldOrNew, ext-pairs-old, Stands, earlier, here, after, stands}
 use Rattle.marking.proofs.Exists.{Inv, found-is, step-inv, start-inv}
 use Rattle.marking.proofs.Simulates.{startOf, view, step-view}
@@ -39,14 +40,14 @@ module _ {T : Type 0} (g : Grammar T) (s : State T) (v : Inv g s) (h : s .place 
   unfolding step extend
   step-keeps =
       record {
-        size-grows = omega (arith, longer g (s .marking) (s .place) (v .meets) h (found g s) (found-is g s v));
+        size-grows = omega (arith, longer g (v .sound) (s .marking) (s .place) (v .meets) h (found g s) (found-is g s v));
         pieces-kept = take-length ps ∙ sym (take-append-seam ps (next ∷ extra g next (found g s)));
         pairs-kept = λ i j hj. ext-pairs-old g (s .marking) next (found g s) i j (omega arith);
       }
 
   pair-below : (i j : ℕ) → step g s .marking .pairs i j ≡ true → j ≤ length ps
   unfolding step
-  pair-below i j p = by (pairs-cases g (s .marking) (s .place) (v .meets) h (found g s) (found-is g s v) i j p)
+  pair-below i j p = by (pairs-cases g (v .sound) (s .marking) (s .place) (v .meets) h (found g s) (found-is g s v) i j p)
     where
       by : OldOrNew ps (found g s) i j → j ≤ length ps
       by (inl t) = omega (arith, t .0)
@@ -125,7 +126,7 @@ module _ {T : Type 0} (limit : ℕ) (g : Grammar T) (s : State T) (v : Inv g s) 
   unfolding step extend
   first-over e m w =
       let d : (role (g .kindAt (s .place)) ≡ opening) × (limit ≤ length (s .stack)) = deep-opening limit (s .stack) (role (g .kindAt (s .place))) e in
-      let lg : length (s .marking .pieces) < length (step g s .marking .pieces) = longer g (s .marking) (s .place) (v .meets) h (found g s) (found-is g s v) in
+      let lg : length (s .marking .pieces) < length (step g s .marking .pieces) = longer g (v .sound) (s .marking) (s .place) (v .meets) h (found g s) (found-is g s v) in
       let len : length (step g s .stack) ≡ suc (length (s .stack)) = ap (λ (r : Role). length (stackBy (length (s .marking .pieces)) (s .stack) r)) (d .0) in
       record {
         index = length (s .marking .pieces);
@@ -219,9 +220,9 @@ unfolding start openBrackets openedBefore pairedBefore
 bounded-start T limit zero h = omega arith
 bounded-start T limit (suc k) h = absurd (omega arith)
 
-pub over-told : {T : Type 0} (limit : ℕ) (g : Grammar T) → Told limit (reading g) (over limit g)
+pub over-told : {T : Type 0} (limit : ℕ) (g : Grammar T) → Sound g → Told limit (reading g) (over limit g)
 unfolding reading over overs scanStart start
-over-told {T} limit g = told (g .size) limit g start (start-inv g) open-start (bounded-start T limit)
+over-told {T} limit g sd = told (g .size) limit g start (start-inv g sd) open-start (bounded-start T limit)
 
 pub first-over-unique : {T : Type 0} (limit : ℕ) (m : Marking T) (p p′ : ℕ) → FirstOver limit m p → FirstOver limit m p′ → p ≡ p′
 first-over-unique limit m p p′ f f′ = by (decLt (f .index) (f′ .index)) (decLt (f′ .index) (f .index))

@@ -13,13 +13,14 @@ use lib.Seq.{getD-append-seam}
 use borrow.Author.Tests.{ltb-true, ltb-false, lt-ltb, le-ltb}
 use Rattle.marking.specs.Marking.{Role, nothing, opening, closing, trailing, role, Piece, At, Plays, Tiles, Paired}
 use Rattle.marking.specs.Spans.{Span, linkSpan, SpansAre}
-use Rattle.marking.specs.Grammar.{Grammar, Computed, rulesOf}
-use Rattle.marking.specs.Reading.{Found, alone, paired, linked, State, pieceAt, blank, withTail, foundClosing, foundBy, stackBy, extra, placeAfter, lastAfter, newSpans, extend, found, step, run, start, reading}
-use Rattle.marking.specs.Scan.{Scan, scanFound, scanStep, scan, finish, scanStart, spans}
+use Rattle.marking.specs.ReadingRules.{Grammar, Computed}
+use Rattle.marking.specs.Reading.{Match, alone, paired, linked, State, pieceAt, blank, withTail, foundClosing, foundBy, stackBy, extra, placeAfter, lastAfter, newSpans, extend, found, step, run, start, reading}
+use Rattle.marking.specs.ReadingSpans.{Scan, scanFound, scanStep, scan, finish, scanStart, spans}
 use Rattle.marking.proofs.Lists.{at-inside}
 use Rattle.marking.proofs.Roles.{opening≢trailing}
 use Rattle.marking.proofs.Tiles.{tiles-order}
 use Rattle.marking.proofs.Pairs.{pair-inside, link-pair}
+use Rattle.marking.proofs.Sound.{Sound, rulesOf}
 use Rattle.marking.proofs.Next.{FoundIs, own-link}
 use Rattle.marking.proofs.Found.{at-getD}
 use Rattle.marking.proofs.Exists.{Inv, found-is, step-inv, start-inv, run-inv, Done}
@@ -30,7 +31,7 @@ startOf ps i = getD ps i blank .start
 abbrev pub view : {T : Type 0} → State T → Scan T
 view s = record { place = s .place; stack = map (startOf (s .marking .pieces)) (s .stack); last-link = startOf (s .marking .pieces) (s .last-link); spans = s .spans }
 
-abbrev mapFound : {T : Type 0} → (ℕ → ℕ) → Found T → Found T
+abbrev mapFound : {T : Type 0} → (ℕ → ℕ) → Match T → Match T
 mapFound h alone = alone
 mapFound h (paired i) = paired (h i)
 mapFound h (linked i t) = linked (h i) t
@@ -62,7 +63,7 @@ map-cond h i true o = refl
 map-cond h i false none = refl
 map-cond h i false (some t) = refl
 
-map-place : {T : Type 0} (g : Grammar T) (q : Piece) (h : ℕ → ℕ) (f : Found T) → placeAfter g q (mapFound h f) ≡ placeAfter g q f
+map-place : {T : Type 0} (g : Grammar T) (q : Piece) (h : ℕ → ℕ) (f : Match T) → placeAfter g q (mapFound h f) ≡ placeAfter g q f
 map-place g q h alone = refl
 map-place g q h (paired i) = refl
 map-place g q h (linked i t) = refl
@@ -116,7 +117,7 @@ module _ {T : Type 0} (g : Grammar T) (s : State T) (v : Inv g s) where
       less : i < s .last-link → startOf ps i < startOf ps (s .last-link)
       less h =
           let d : Computed g (getD ps i blank) = open-starts i p in
-          omega (arith, by-order i (s .last-link) h (last-inside (omega arith)), d .end-is, g .grows (startOf ps i) (d .inside))
+          omega (arith, by-order i (s .last-link) h (last-inside (omega arith)), d .end-is, v .sound .grows (startOf ps i) (d .inside))
 
       by : s .last-link ≤ i → Dec (i ≡ s .last-link) → startOf ps (s .last-link) ≤ startOf ps i
       by h (yes e) = let z : startOf ps i ≡ startOf ps (s .last-link) = ap (startOf ps) e in omega arith
@@ -192,13 +193,13 @@ module _ {T : Type 0} (g : Grammar T) (s : State T) (v : Inv g s) where
 
   found-opens : (i : ℕ) (t : T) → found g s ≡ linked i t → Plays opening ps i
   found-opens i t e =
-      let fi : FoundIs g (s .marking) next (linked i t) = subst (λ (y : Found T). FoundIs g (s .marking) next y) e (found-is g s v) in
+      let fi : FoundIs g (s .marking) next (linked i t) = subst (λ (y : Match T). FoundIs g (s .marking) next y) e (found-is g s v) in
       fi .pair-found i .0 (fi .link-found i t .0 (own-link i t) .0) .1 .opened
 
   last-view : lastAfter (startOf ps (s .last-link)) (mapFound (startOf ps) (found g s)) ≡ grown (lastAfter (s .last-link) (found g s))
   last-view = by (found g s) refl
     where
-      by : (f : Found T) → found g s ≡ f → lastAfter (startOf ps (s .last-link)) (mapFound (startOf ps) f) ≡ grown (lastAfter (s .last-link) f)
+      by : (f : Match T) → found g s ≡ f → lastAfter (startOf ps (s .last-link)) (mapFound (startOf ps) f) ≡ grown (lastAfter (s .last-link) f)
       by alone e = last-kept
       by (paired i) e = last-kept
       by (linked i t) e = start-kept i (open-inside i (found-opens i t e))
@@ -206,7 +207,7 @@ module _ {T : Type 0} (g : Grammar T) (s : State T) (v : Inv g s) where
   spans-view : newSpans (pieceAt g) next (mapFound (startOf ps) (found g s)) ≡ newSpans (λ i. getD ps i blank) next (found g s)
   spans-view = by (found g s) refl
     where
-      by : (f : Found T) → found g s ≡ f → newSpans (pieceAt g) next (mapFound (startOf ps) f) ≡ newSpans (λ i. getD ps i blank) next f
+      by : (f : Match T) → found g s ≡ f → newSpans (pieceAt g) next (mapFound (startOf ps) f) ≡ newSpans (λ i. getD ps i blank) next f
       by alone e = refl
       by (paired i) e = refl
       by (linked i t) e = ap (λ (y : Piece). linkSpan y next t ∷ []) (open-is i (found-opens i t e))
@@ -238,8 +239,8 @@ unfolding run scan
 run-view zero g s v = refl
 run-view (suc n) g s v = run-suc-view n g s v (λ s′ v′. run-view n g s′ v′)
 
-pub spans-are-reading : {T : Type 0} (g : Grammar T) → SpansAre (rulesOf g) (reading g) (spans g)
+pub spans-are-reading : {T : Type 0} (g : Grammar T) → Sound g → SpansAre (rulesOf g) (reading g) (spans g)
 unfolding reading spans finish scanStart start
-spans-are-reading {T} g =
-    let w : Done g (run (g .size) g start) = run-inv (g .size) g start (start-inv g) (omega arith) in
-    subst (λ (l : List (Span T)). SpansAre (rulesOf g) (run (g .size) g start .marking) l) (sym (ap (λ (y : Scan T). y .spans) (run-view (g .size) g start (start-inv g)))) (w .0 .spans-are .are)
+spans-are-reading {T} g sd =
+    let w : Done g (run (g .size) g start) = run-inv (g .size) g start (start-inv g sd) (omega arith) in
+    subst (λ (l : List (Span T)). SpansAre (rulesOf g) (run (g .size) g start .marking) l) (sym (ap (λ (y : Scan T). y .spans) (run-view (g .size) g start (start-inv g sd)))) (w .0 .spans-are .are)

@@ -5,7 +5,7 @@ use mathlib.Core.Option.{some, Option·some-injective, Option·none-ne-some}
 use mathlib.Core.List.{List, [], _∷_}
 use Prim.Native.Nat.{ℕ, zero, suc}
 use lib.ListN.{getElem?}
-use Rattle.marking.specs.Spans.{In}
+use Rattle.scan.specs.Member.{In}
 
 pub in-cases : {A : Type 0} (z y : A) (ys : List A) → In z (y ∷ ys) → (y ≡ z) ⊎ In z ys
 in-cases {A} z y ys h = by (h .0) (h .1)

@@ -11,12 +11,14 @@ use lib.Dec.{eqb}
 use lib.ListN.{length, getElem?, getD}
 use borrow.Author.Tests.{eq-eqb}
 use Rattle.marking.specs.Marking.{Kind, escape, code, plain, opens, closes, tail, closing, role, Piece, Marking}
-use Rattle.marking.specs.Spans.{Span, codeSpan, linkSpan, spanEnd, EndsBefore, CodeOf, LinkOf, SpanOf, In, SpansAre}
-use Rattle.marking.specs.Grammar.{Grammar, rulesOf, MeetsTo}
-use Rattle.marking.specs.Reading.{Found, alone, paired, linked, linkColumn, pieceAt, blank, extra, placeAfter, extend, isCode, newSpans}
+use Rattle.scan.specs.Member.{In}
+use Rattle.marking.specs.Spans.{Span, codeSpan, linkSpan, spanEnd, EndsBefore, CodeOf, LinkOf, SpanOf, SpansAre}
+use Rattle.marking.specs.ReadingRules.{Grammar}
+use Rattle.marking.specs.Reading.{Match, alone, paired, linked, linkColumn, pieceAt, blank, extra, placeAfter, extend, isCode, newSpans}
 use Rattle.marking.proofs.Lists.{at-inside, at-left, at-right, at-seam, at-back, at-split}
 use Rattle.marking.proofs.Roles.{nothing≢closing, nothing≢trailing}
 use Rattle.marking.proofs.Pairs.{pair-inside, link-pair}
+use Rattle.marking.proofs.Sound.{Sound, rulesOf, MeetsTo}
 use Rattle.marking.proofs.Next.{LinkFound, FoundIs, link-column, own-link, ext-links-old, ext-links-new, Stands, earlier, here, after, stands}
 use Rattle.marking.proofs.Found.{at-getD, further}
 
@@ -85,7 +87,7 @@ only : {A : Type 0} (y x : A) (d : ℕ) → getElem? (y ∷ []) d ≡ some x →
 only y x zero h = Option·some-injective y x h
 only y x (suc d) h = absurd (Option·none-ne-some x h)
 
-module _ {T : Type 0} (g : Grammar T) (m : Marking T) (b : ℕ) (c : MeetsTo g b m) (inside : b < g .size) (f : Found T) (fi : FoundIs g m (pieceAt g b) f) where
+module _ {T : Type 0} (g : Grammar T) (sd : Sound g) (m : Marking T) (b : ℕ) (c : MeetsTo g b m) (inside : b < g .size) (f : Match T) (fi : FoundIs g m (pieceAt g b) f) where
   -- the next piece, what it adds, the marking then, and the spans that a piece which comes to f adds
   abbrev next : Piece
   next = pieceAt g b
@@ -96,7 +98,7 @@ module _ {T : Type 0} (g : Grammar T) (m : Marking T) (b : ℕ) (c : MeetsTo g b
   abbrev grown : Marking T
   grown = extend g m next f
 
-  abbrev fresh : Found T → List (Span T)
+  abbrev fresh : Match T → List (Span T)
   fresh f = newSpans (λ i. getD (m .pieces) i blank) next f
 
   keep-span : (x : Span T) → SpanOf m x → SpanOf grown x
@@ -112,10 +114,10 @@ module _ {T : Type 0} (g : Grammar T) (m : Marking T) (b : ℕ) (c : MeetsTo g b
         close-at = at-left (m .pieces) added (s .to) p (s .close-at);
       }
 
-  no-code : (a : ℕ) → g .kindAt b ≡ code → (f : Found T) → FoundIs g m next f → (eqb a a ≡ true → role (g .kindAt b) ≡ closing) → ⊥
+  no-code : (a : ℕ) → g .kindAt b ≡ code → (f : Match T) → FoundIs g m next f → (eqb a a ≡ true → role (g .kindAt b) ≡ closing) → ⊥
   no-code a e f fi′ h = nothing≢closing (ap role (sym e) ∙ h (eq-eqb a a refl))
 
-  code-new : (f : Found T) → FoundIs g m next f → g .kindAt b ≡ code → In (codeSpan next) (fresh f)
+  code-new : (f : Match T) → FoundIs g m next f → g .kindAt b ≡ code → In (codeSpan next) (fresh f)
   code-new alone fi′ e = (0, rw e)
   code-new (paired a) fi′ e = absurd (no-code a e (paired a) fi′ (λ h. fi′ .pair-found a .0 h .0))
   code-new (linked a t) fi′ e = absurd (no-code a e (linked a t) fi′ (λ h. fi′ .pair-found a .0 h .0))
@@ -139,7 +141,7 @@ module _ {T : Type 0} (g : Grammar T) (m : Marking T) (b : ℕ) (c : MeetsTo g b
           let eo : d .open-piece ≡ o = Option·some-injective (d .open-piece) o (sym (at-left (m .pieces) added (s .from) (d .open-piece) (d .open-at)) ∙ s .open-at) in
           let eo′ : getD (m .pieces) (s .from) blank ≡ o = at-getD (m .pieces) (s .from) (d .open-piece) (d .open-at) ∙ eo in
           let ep : next ≡ p = Option·some-injective next p (sym (at-seam (m .pieces) next (extra g next f)) ∙ ap (getElem? (m .pieces ++ added)) (sym e) ∙ s .close-at) in
-          inr (subst (λ (y : Found T). In (linkSpan o p t) (fresh y)) (sym (link-column f (s .from) t l))
+          inr (subst (λ (y : Match T). In (linkSpan o p t) (fresh y)) (sym (link-column f (s .from) t l))
           (0, ap (λ (y : Piece). some (linkSpan y next t)) eo′ ∙ ap (λ (y : Piece). some (linkSpan o y t)) ep))
       by (no ne) =
           let l : m .links (s .from) (s .to) ≡ some t = sym (ext-links-old g m next f (s .from) (s .to) ne) ∙ s .linked in
@@ -163,11 +165,11 @@ module _ {T : Type 0} (g : Grammar T) (m : Marking T) (b : ℕ) (c : MeetsTo g b
           (record { index = length (m .pieces); at = at-seam (m .pieces) next (extra g next f); is-code = code-is (g .kindAt b) e })
       plain-or-code false e a = absurd (Option·none-ne-some x a)
 
-      by : (f′ : Found T) → f ≡ f′ → getElem? (fresh f′) (h .0) ≡ some x → SpanOf grown x
+      by : (f′ : Match T) → f ≡ f′ → getElem? (fresh f′) (h .0) ≡ some x → SpanOf grown x
       by alone e a = plain-or-code (isCode (g .kindAt b)) refl a
       by (paired i) e a = absurd (Option·none-ne-some x a)
       by (linked i t) e a =
-          let l : linkColumn f i ≡ some t = ap (λ (y : Found T). linkColumn y i) e ∙ own-link i t in
+          let l : linkColumn f i ≡ some t = ap (λ (y : Match T). linkColumn y i) e ∙ own-link i t in
           let d : LinkFound g m next i t = fi .link-found i t .0 l .1 in
           subst (λ (y : Span T). SpanOf grown y) (only (linkSpan (getD (m .pieces) i blank) next t) x (h .0) a)
           (record {
@@ -178,7 +180,7 @@ module _ {T : Type 0} (g : Grammar T) (m : Marking T) (b : ℕ) (c : MeetsTo g b
             close-at = at-seam (m .pieces) next (extra g next f);
           })
 
-  one-span : (f : Found T) (k : ℕ) (x : Span T) → getElem? (fresh f) (suc k) ≡ some x → ⊥
+  one-span : (f : Match T) (k : ℕ) (x : Span T) → getElem? (fresh f) (suc k) ≡ some x → ⊥
   one-span alone k x a = by (isCode (g .kindAt b)) a
     where
       by : (v : Bool) → getElem? (cond {A = List (Span T)} v (codeSpan next ∷ []) []) (suc k) ≡ some x → ⊥
@@ -187,7 +189,7 @@ module _ {T : Type 0} (g : Grammar T) (m : Marking T) (b : ℕ) (c : MeetsTo g b
   one-span (paired i) k x a = Option·none-ne-some x a
   one-span (linked i t) k x a = Option·none-ne-some x a
 
-  span-end : (f : Found T) (x : Span T) → In x (fresh f) → spanEnd (rulesOf g) x ≡ placeAfter g next f
+  span-end : (f : Match T) (x : Span T) → In x (fresh f) → spanEnd (rulesOf g) x ≡ placeAfter g next f
   span-end alone x h = by (isCode (g .kindAt b)) (h .1)
     where
       by : (v : Bool) → getElem? (cond {A = List (Span T)} v (codeSpan next ∷ []) []) (h .0) ≡ some x → spanEnd (rulesOf g) x ≡ g .endAt b
@@ -200,4 +202,4 @@ module _ {T : Type 0} (g : Grammar T) (m : Marking T) (b : ℕ) (c : MeetsTo g b
       → SpansTo g (placeAfter g next f) grown (xs ++ fresh f)
   spans-extended xs old =
       appended g m grown b (placeAfter g next f) xs (fresh f)
-      old (further g m b c inside f fi .0) span-cases keep-span span-new (span-end f) (one-span f)
+      old (further g sd m b c inside f fi .0) span-cases keep-span span-new (span-end f) (one-span f)

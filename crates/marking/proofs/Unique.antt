@@ -9,14 +9,15 @@ use native.Mathlib.Nat.{not-suc-le-zero}
 use native.Mathlib.Omega.{arith}
 use lib.ListN.{take, getElem?}
 use Rattle.marking.specs.Marking.{Rules, Role, nothing, opening, closing, trailing, role, Piece, Marking, At, Plays, Paired, tailPiece, FollowsLink, HasTail, Linked, Meets}
-use Rattle.marking.specs.Grammar.{Grammar, Computed, rulesOf}
+use Rattle.marking.specs.ReadingRules.{Grammar, Computed}
 use Rattle.marking.proofs.Lists.{take-step, same-at, same-list}
 use Rattle.marking.proofs.Roles.{nothing≢trailing, opening≢trailing, closing≢trailing}
 use Rattle.marking.proofs.Tiles.{reach, tiles-start, tiles-stop}
 use Rattle.marking.proofs.Pairs.{paired-local, link-pair}
+use Rattle.marking.proofs.Sound.{rulesOf}
 
 -- the tail of a pair depends on the pieces up to it only
-pub tail-local : {T : Type 0} (r r′ : Rules T) (k : ℕ) (ps ps′ : List Piece) (i j : ℕ) (t : T) → ((o s : ℕ) → r .Tail o s t → r′ .Tail o s t)
+pub tail-local : {T : Type 0} (r r′ : Rules T) (k : ℕ) (ps ps′ : List Piece) (i j : ℕ) (t : T) → ((o s : ℕ) → r .TailAt o s t → r′ .TailAt o s t)
     → take k ps ≡ take k ps′ → i < k → j < k → HasTail r ps i j t → HasTail r′ ps′ i j t
 tail-local r r′ k ps ps′ i j t same e hi hj c =
     record {

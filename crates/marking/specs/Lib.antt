@@ -2,6 +2,7 @@ pub mod Marking
 pub mod Spans
 pub mod Open
 pub mod Claims
-pub mod Grammar
+pub mod ReadingRules
 pub mod Reading
-pub mod Scan
+pub mod ReadingSpans
+pub mod Samples

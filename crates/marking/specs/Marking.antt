@@ -44,7 +44,7 @@ pub record Rules (T : Type 0) : Type 1 where
   pub Starts : Piece → Type 0
   -- "For a tail, what follows the closing bracket is read on its own": the tail of a pair whose text begins at the first place
   -- and whose closing piece begins at the second
-  pub Tail : ℕ → ℕ → T → Type 0
+  pub TailAt : ℕ → ℕ → T → Type 0
   -- how many bytes a tail takes up
   pub lengthOf : T → ℕ
 
@@ -106,7 +106,7 @@ pub record HasTail {T : Type 0} (r : Rules T) (ps : List Piece) (i j : ℕ) (t :
   pub close-piece : Piece
   pub open-at : At ps i open-piece
   pub close-at : At ps j close-piece
-  pub reads : r .Tail (open-piece .end) (close-piece .start) t
+  pub reads : r .TailAt (open-piece .end) (close-piece .start) t
 
 -- a pair, "no link lies between its two brackets and it has a tail"
 pub record Linked {T : Type 0} (r : Rules T) (m : Marking T) (i j : ℕ) (t : T) : Type 0 where

@@ -7,13 +7,13 @@ use lib.Dec.{ltb, eqb}
 use lib.ListN.{length, getD}
 use Rattle.marking.specs.Marking.{Kind, escape, code, plain, opens, closes, tail as tailKind, Role, nothing, opening, closing, trailing, role, Piece, Marking, tailPiece}
 use Rattle.marking.specs.Spans.{Span, codeSpan, linkSpan}
-use Rattle.marking.specs.Grammar.{Grammar}
+use Rattle.marking.specs.ReadingRules.{Grammar}
 
 -- what a piece comes to: no pair, a pair with piece i, or a link with piece i and its tail
-pub data Found (T : Type 0) : Type 0 where
-  alone : Found T
-  paired : ℕ → Found T
-  linked : ℕ → T → Found T
+pub data Match (T : Type 0) : Type 0 where
+  alone : Match T
+  paired : ℕ → Match T
+  linked : ℕ → T → Match T
 
 pub record State (T : Type 0) : Type 0 where
   pub place : ℕ
@@ -28,12 +28,12 @@ pub record State (T : Type 0) : Type 0 where
 abbrev pub column : {B : Type 0} → (ℕ → ℕ → B) → ℕ → (ℕ → B) → ℕ → ℕ → B
 column f k c i j = cond (eqb j k) (c i) (f i j)
 
-abbrev pub pairColumn : {T : Type 0} → Found T → ℕ → Bool
+abbrev pub pairColumn : {T : Type 0} → Match T → ℕ → Bool
 pairColumn alone i = false
 pairColumn (paired a) i = eqb i a
 pairColumn (linked a t) i = eqb i a
 
-abbrev pub linkColumn : {T : Type 0} → Found T → ℕ → Option T
+abbrev pub linkColumn : {T : Type 0} → Match T → ℕ → Option T
 linkColumn alone i = none
 linkColumn (paired a) i = none
 linkColumn (linked a t) i = cond (eqb i a) (some t) none
@@ -44,16 +44,16 @@ pieceAt g s = record { kind = g .kindAt s; start = s; end = g .endAt s }
 abbrev pub blank : Piece
 blank = record { kind = plain; start = 0; end = 0 }
 
-abbrev pub withTail : {T : Type 0} → ℕ → Option T → Found T
+abbrev pub withTail : {T : Type 0} → ℕ → Option T → Match T
 withTail i none = paired i
 withTail i (some t) = linked i t
 
 -- what a closing piece comes to, by the tail that it would have with each opening piece
-abbrev pub foundClosing : {T : Type 0} → (ℕ → Option T) → ℕ → List ℕ → Found T
+abbrev pub foundClosing : {T : Type 0} → (ℕ → Option T) → ℕ → List ℕ → Match T
 foundClosing tailOf last-link [] = alone
 foundClosing tailOf last-link (i ∷ st) = cond (ltb i last-link) (paired i) (withTail i (tailOf i))
 
-abbrev pub foundBy : {T : Type 0} → (ℕ → Option T) → ℕ → List ℕ → Role → Found T
+abbrev pub foundBy : {T : Type 0} → (ℕ → Option T) → ℕ → List ℕ → Role → Match T
 foundBy tailOf last-link st nothing = alone
 foundBy tailOf last-link st opening = alone
 foundBy tailOf last-link st closing = foundClosing tailOf last-link st
@@ -65,17 +65,17 @@ stackBy k st opening = k ∷ st
 stackBy k st closing = tail st
 stackBy k st trailing = st
 
-abbrev pub extra : {T : Type 0} → Grammar T → Piece → Found T → List Piece
+abbrev pub extra : {T : Type 0} → Grammar T → Piece → Match T → List Piece
 extra g q alone = []
 extra g q (paired i) = []
 extra g q (linked i t) = tailPiece q (g .lengthOf t) ∷ []
 
-abbrev pub placeAfter : {T : Type 0} → Grammar T → Piece → Found T → ℕ
+abbrev pub placeAfter : {T : Type 0} → Grammar T → Piece → Match T → ℕ
 placeAfter g q alone = q .end
 placeAfter g q (paired i) = q .end
 placeAfter g q (linked i t) = q .end + g .lengthOf t
 
-abbrev pub lastAfter : {T : Type 0} → ℕ → Found T → ℕ
+abbrev pub lastAfter : {T : Type 0} → ℕ → Match T → ℕ
 lastAfter last-link alone = last-link
 lastAfter last-link (paired i) = last-link
 lastAfter last-link (linked i t) = i
@@ -89,13 +89,13 @@ isCode closes = false
 isCode tailKind = false
 
 -- the span that ends with the piece q, by what q comes to; openPiece gives the piece that q is paired with
-abbrev pub newSpans : {T : Type 0} → (ℕ → Piece) → Piece → Found T → List (Span T)
+abbrev pub newSpans : {T : Type 0} → (ℕ → Piece) → Piece → Match T → List (Span T)
 newSpans openPiece q alone = cond (isCode (q .kind)) (codeSpan q ∷ []) []
 newSpans openPiece q (paired i) = []
 newSpans openPiece q (linked i t) = linkSpan (openPiece i) q t ∷ []
 
 -- m with the piece q and what it comes to
-unfoldable pub extend : {T : Type 0} → Grammar T → Marking T → Piece → Found T → Marking T
+unfoldable pub extend : {T : Type 0} → Grammar T → Marking T → Piece → Match T → Marking T
 extend g m q f =
     record {
       pieces = m .pieces ++ q ∷ extra g q f;
@@ -103,7 +103,7 @@ extend g m q f =
       links = column (m .links) (length (m .pieces)) (linkColumn f);
     }
 
-unfoldable pub found : {T : Type 0} → Grammar T → State T → Found T
+unfoldable pub found : {T : Type 0} → Grammar T → State T → Match T
 found g s = foundBy (λ i. g .tailAt (getD (s .marking .pieces) i blank .end) (s .place)) (s .last-link) (s .stack) (role (g .kindAt (s .place)))
 
 unfoldable pub step : {T : Type 0} → Grammar T → State T → State T

@@ -4,6 +4,7 @@ use mathlib.Core.Option.{some}
 use mathlib.Core.List.{List}
 use Prim.Native.Nat.{ℕ, suc, _+_, _<_}
 use lib.ListN.{getElem?}
+use Rattle.scan.specs.Member.{In}
 use Rattle.marking.specs.Marking.{code, Piece, Rules, Marking, At}
 
 -- a code span's piece, or a link's opening piece, closing piece and tail
@@ -36,9 +37,6 @@ pub record LinkOf {T : Type 0} (m : Marking T) (o c : Piece) (t : T) : Type 0 wh
 abbrev pub SpanOf : {T : Type 0} → Marking T → Span T → Type 0
 SpanOf m (codeSpan q) = CodeOf m q
 SpanOf m (linkSpan o c t) = LinkOf m o c t
-
-abbrev pub In : {A : Type 0} → A → List A → Type 0
-In x xs = (k : ℕ) × (getElem? xs k ≡ some x)
 
 -- "the links and code spans in the markings", all of them and nothing else; "Rows stand in increasing order of end."
 pub record SpansAre {T : Type 0} (r : Rules T) (m : Marking T) (xs : List (Span T)) : Type 0 where

@@ -11,7 +11,7 @@ use lib.Dec.{ltb}
 use Rattle.scan.proofs.Test.{by}
 use Rattle.marking.specs.Marking.{Marking}
 use Rattle.marking.specs.Open.{NeverOver, FirstOver}
-use Rattle.marking.specs.Scan.{over}
+use Rattle.marking.specs.ReadingSpans.{over}
 use Rattle.marking.proofs.Over.{first-over-unique}
 use Rattle.block.specs.Block.{Placed}
 use Rattle.row.specs.declared.Definition.{Definition}
@@ -19,7 +19,7 @@ use Rattle.row.specs.First.{labelsOf}
 use Rattle.definition.specs.Reading.{definitions, paragraphs}
 use Rattle.definition.proofs.Notes.{note-iff}
 use Rattle.inline.specs.Tails.{Tail}
-use Rattle.inline.specs.Grammar.{grammar}
+use Rattle.inline.specs.Reading.{grammar}
 use Rattle.inline.proofs.Demand3.{first-bracket-too-many, never-too-many}
 use Rattle.note.specs.Note.{depthLimit, MarkingOf, MarkingsAre, Marked, FirstDeepIn, FirstDeep, NeverDeep}
 use Rattle.note.specs.Reading.{labels, placeOr, deepIn, firstDeep}

@@ -6,7 +6,8 @@ use mathlib.Core.Option.{Option, none, some}
 use mathlib.Core.List.{List}
 use lib.ListN.{length, getD, length-map}
 use Rattle.marking.specs.Marking.{Marking}
-use Rattle.marking.specs.Spans.{Span, codeSpan, linkSpan, SpanOf, In}
+use Rattle.scan.specs.Member.{In}
+use Rattle.marking.specs.Spans.{Span, codeSpan, linkSpan, SpanOf}
 use Rattle.block.specs.Block.{Placed}
 use Rattle.row.specs.declared.Range.{Range}
 use Rattle.row.specs.declared.Definition.{Definition}

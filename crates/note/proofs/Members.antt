@@ -5,7 +5,7 @@ use mathlib.Core.Logic.{_⊎_, inl, inr}
 use mathlib.Core.Option.{some, Option·some-injective, Option·none-ne-some}
 use mathlib.Core.List.{List, [], _∷_, _++_, map, Forall₂, Forall₂·nil, Forall₂·cons, List·Memᴰ, List·Memᴰ·head, List·Memᴰ·tail}
 use lib.ListN.{length, getElem?}
-use Rattle.marking.specs.Spans.{In}
+use Rattle.scan.specs.Member.{In}
 use Rattle.marking.proofs.Lists.{at-left, at-right, at-split}
 
 pub record Mapped {A B : Type 0} (f : A → B) (xs : List A) (y : B) : Type 0 where

@@ -9,7 +9,7 @@ use borrow.Author.Tests.{ltb-true, ltb-false}
 use lib.ListN.{length, getElem?}
 use lib.Dec.{ltb}
 use Rattle.scan.proofs.Test.{by}
-use Rattle.marking.specs.Spans.{In}
+use Rattle.scan.specs.Member.{In}
 use Rattle.marking.proofs.Lists.{at-inside, at-split}
 use Rattle.marking.proofs.Sorted.{in-none, head-first}
 use Rattle.block.specs.Block.{Placed}

@@ -7,7 +7,8 @@ use mathlib.Core.List.{List, [], _∷_, _++_}
 use lib.ListN.{length, getD, take, drop, length-drop, getElem?, take-append-drop}
 use lib.Seq.{drop-drop, drop-append-le, take-append-le}
 use Rattle.marking.specs.Marking.{Marking}
-use Rattle.marking.specs.Spans.{Span, SpanOf, In}
+use Rattle.scan.specs.Member.{In}
+use Rattle.marking.specs.Spans.{Span, SpanOf}
 use Rattle.block.specs.Block.{Placed}
 use Rattle.row.specs.Row.{range}
 use Rattle.row.specs.First.{bytesOf, labelsOf}

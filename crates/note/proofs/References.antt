@@ -6,14 +6,15 @@ use mathlib.Core.List.{List, [], _∷_, _++_}
 use lib.ListN.{length, getD, take, drop, length-map}
 use lib.Seq.{drop-drop, take-at}
 use Rattle.marking.specs.Marking.{Piece, Marking}
-use Rattle.marking.specs.Spans.{Span, codeSpan, linkSpan, SpanOf, In}
+use Rattle.scan.specs.Member.{In}
+use Rattle.marking.specs.Spans.{Span, codeSpan, linkSpan, SpanOf}
 use Rattle.block.specs.Block.{Placed}
 use Rattle.row.specs.declared.Definition.{Definition}
 use Rattle.row.specs.Row.{range, absent, definition}
 use Rattle.row.specs.First.{bytesOf, labelsOf, FirstEqual}
 use Rattle.definition.specs.Reading.{definitions}
 use Rattle.definition.proofs.NotePlaces.{Inside}
-use Rattle.inline.specs.Tails.{Tail, full, collapsed, shortcut, LabelFollows, Inline, empty, untitled, titled, TailOf, first, second, third, third-alone}
+use Rattle.inline.specs.Tails.{Tail, full, collapsed, shortcut, LabelFollows, InlineFollows, empty, untitled, titled, TailOf, first, second, third, third-alone}
 use Rattle.inline.specs.Rows.{Target, defined, targetOf, RowWithin}
 use Rattle.inline.specs.ReadingRows.{kindNumber, spanRow}
 use Rattle.note.specs.Note.{MarkingOf, Marked}
@@ -23,7 +24,7 @@ use Rattle.note.proofs.Markings.{definitions-are-read}
 use Rattle.note.proofs.Spans.{link-read}
 use Rattle.note.proofs.Placing.{from-span, at-getD, part-bytes}
 
-inline-kind : {s : List ℕ} {at : ℕ} {t : Tail} (o d : Piece) → Inline s at t → kindNumber (linkSpan o d t) ≡ 2
+inline-kind : {s : List ℕ} {at : ℕ} {t : Tail} (o d : Piece) → InlineFollows s at t → kindNumber (linkSpan o d t) ≡ 2
 inline-kind o d (empty body rest op cl) = refl
 inline-kind o d (untitled body content more rest from op de cl) = refl
 inline-kind o d (titled body content more quoted content′ after rest from op de ap′ ti cl) = refl

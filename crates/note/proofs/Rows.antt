@@ -6,15 +6,16 @@ use mathlib.Core.Option.{some, Option·some-injective, Option·none-ne-some}
 use mathlib.Core.List.{List, _∷_, Forall₂·nil, Forall₂·cons}
 use lib.ListN.{getElem?}
 use Rattle.marking.specs.Marking.{Marking}
-use Rattle.marking.specs.Spans.{Span, SpanOf, In}
-use Rattle.marking.specs.Scan.{spans}
+use Rattle.scan.specs.Member.{In}
+use Rattle.marking.specs.Spans.{Span, SpanOf}
+use Rattle.marking.specs.ReadingSpans.{spans}
 use Rattle.marking.proofs.Sorted.{in-none}
 use Rattle.block.specs.Block.{Placed}
 use Rattle.row.specs.declared.Definition.{Definition}
 use Rattle.row.specs.First.{labelsOf}
 use Rattle.definition.proofs.Notes.{note-iff}
 use Rattle.inline.specs.Tails.{Tail}
-use Rattle.inline.specs.Grammar.{grammar}
+use Rattle.inline.specs.Reading.{grammar}
 use Rattle.inline.specs.ReadingRows as paragraph
 use Rattle.inline.specs.ReadingRows.{spanRow}
 use Rattle.inline.proofs.Demand3.{its-spans-are-read}

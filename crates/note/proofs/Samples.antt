@@ -4,7 +4,7 @@ use mathlib.Core.Option.{Option·some-injective}
 use mathlib.Core.List.{List, map}
 use lib.ListN.{getElem?}
 use Rattle.scan.specs.Ascii.{ascii}
-use Rattle.marking.specs.Spans.{In}
+use Rattle.scan.specs.Member.{In}
 use Rattle.block.specs.Block.{Placed}
 use Rattle.row.specs.declared.Definition.{Definition}
 use Rattle.row.specs.Row.{numbers}

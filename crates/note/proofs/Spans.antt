@@ -7,15 +7,16 @@ use mathlib.Core.List.{List}
 use lib.ListN.{length, getD, take, drop, getElem?}
 use Rattle.marking.specs.Marking.{role, Role, Piece, Marking, Plays, Paired, HasTail, Meets}
 use Rattle.marking.specs.Marking as roles
-use Rattle.marking.specs.Spans.{Span, codeSpan, linkSpan, SpanOf, CodeOf, LinkOf, In}
-use Rattle.marking.specs.Scan.{spans}
+use Rattle.scan.specs.Member.{In}
+use Rattle.marking.specs.Spans.{Span, codeSpan, linkSpan, SpanOf, CodeOf, LinkOf}
+use Rattle.marking.specs.ReadingSpans.{spans}
 use Rattle.marking.proofs.Roles.{nothing≢opening, nothing≢closing, nothing≢trailing, opening≢closing, opening≢trailing, closing≢opening, closing≢trailing}
 use Rattle.marking.proofs.Pairs.{link-pair}
 use Rattle.row.specs.declared.Definition.{Definition}
 use Rattle.inline.specs.Pieces.{Starts, an-escape, code-span, backticks, opening, closing, other}
 use Rattle.inline.specs.Tails.{Tail, TailOf}
 use Rattle.inline.specs.Paragraph.{rules}
-use Rattle.inline.specs.Grammar.{grammar}
+use Rattle.inline.specs.Reading.{grammar}
 use Rattle.inline.specs.Rows.{rowEnd, RowWithin}
 use Rattle.inline.specs.ReadingRows.{spanRow, spanRows}
 use Rattle.inline.proofs.Demand3.{the-marking, the-marking-meets, its-spans-are-read}
@@ -25,8 +26,8 @@ use Rattle.note.proofs.Members.{in-mapped}
 -- ---- pieces
 some-bytes : {p : List ℕ} {q : Piece} → Starts p q → q .start < q .end
 some-bytes (an-escape e) = omega arith
-some-bytes (code-span r f) = omega (arith, r .some, f .later)
-some-bytes (backticks r f) = omega (arith, r .some)
+some-bytes (code-span r f) = omega (arith, r .nonempty, f .later)
+some-bytes (backticks r f) = omega (arith, r .nonempty)
 some-bytes (opening e) = omega arith
 some-bytes (closing e) = omega arith
 some-bytes (other h e m) = omega arith
@@ -69,7 +70,7 @@ module _ (p : List ℕ) (ls : List (List ℕ)) (m : Marking Tail) (c : Meets (ru
       record {
         some-bracket = some-bytes (c .kinds (x .from) o (x .open-at) (λ e. opening≢trailing (sym ro ∙ e)));
         one-bracket = one-byte (c .kinds (x .to) d (x .close-at) (λ e. closing≢trailing (sym rd ∙ e))) rd;
-        reads = subst (λ (y : Piece). rules p ls .Tail (o .end) (y .start) t) ed (subst (λ (y : Piece). rules p ls .Tail (y .end) (h .close-piece .start) t) eo (h .reads));
+        reads = subst (λ (y : Piece). rules p ls .TailAt (o .end) (y .start) t) ed (subst (λ (y : Piece). rules p ls .TailAt (y .end) (h .close-piece .start) t) eo (h .reads));
       }
 
   pub code-some : (q : Piece) → CodeOf m q → q .start < q .end

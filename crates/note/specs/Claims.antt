@@ -7,7 +7,7 @@ use mathlib.Core.Bool.{cond}
 use mathlib.Core.List.{List, [], _∷_}
 use lib.ListN.{length, getD, drop, getElem?}
 use lib.Dec.{eqb}
-use Rattle.marking.specs.Spans.{In}
+use Rattle.scan.specs.Member.{In}
 use Rattle.marking.specs.Claims.{ExactlyOne}
 use Rattle.block.specs.Block.{Placed}
 use Rattle.row.specs.declared.Range.{Range}

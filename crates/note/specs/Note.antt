@@ -5,7 +5,8 @@ use mathlib.Core.Option.{some}
 use mathlib.Core.List.{List, [], _∷_, _++_, Forall₂}
 use lib.ListN.{getElem?}
 use Rattle.marking.specs.Marking.{Marking, Meets}
-use Rattle.marking.specs.Spans.{Span, SpanOf, In}
+use Rattle.scan.specs.Member.{In}
+use Rattle.marking.specs.Spans.{Span, SpanOf}
 use Rattle.marking.specs.Open.{NeverOver, FirstOver}
 use Rattle.block.specs.Block.{Placed}
 use Rattle.row.specs.declared.Definition.{Definition}

@@ -6,7 +6,7 @@ use mathlib.Core.Path.{_≡_, refl, ap, _∙_}
 use mathlib.Core.List.{List, [], _∷_, _++_}
 use lib.ListN.{length, drop, length-append, length-drop}
 use lib.Seq.{take-all}
-use Rattle.marking.specs.Spans.{In}
+use Rattle.scan.specs.Member.{In}
 use Rattle.rows.specs.Rows
 use Rattle.rows.proofs.Filled.{rows-fit}
 use Rattle.row.specs.Row as definitionTable

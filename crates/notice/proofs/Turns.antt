@@ -6,7 +6,7 @@ use mathlib.Core.Option.{Option, none, some, Option·none-ne-some}
 use mathlib.Core.List.{List, [], _++_, map, map-append, append-nil, append-assoc}
 use lib.ListN.{length, drop, length-append, length-map, length-drop}
 use lib.Seq.{length-take-le}
-use Rattle.marking.specs.Scan.{spans, over}
+use Rattle.marking.specs.ReadingSpans.{spans, over}
 use Rattle.row.specs.declared.Definition.{Definition}
 use Rattle.row.specs.Row.{range}
 use Rattle.row.specs.First.{bytesOf, labelsOf}
@@ -19,7 +19,7 @@ use Rattle.walk.proofs.Whole.{all-paragraphs}
 use Rattle.span.specs.declared.Span.{Span}
 use Rattle.span.specs.Row.{numbers, filled}
 use Rattle.span.proofs.Filled.{filled-none, length-filled}
-use Rattle.inline.specs.Grammar.{grammar}
+use Rattle.inline.specs.Reading.{grammar}
 use Rattle.inline.specs.ReadingRows.{spanRow}
 use Rattle.note.specs.Reading.{labels, rowsIn, spanRows, deepIn, firstDeep}
 use Rattle.note.proofs.Bracket.{first-deep-bracket}

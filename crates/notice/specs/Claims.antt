@@ -6,7 +6,7 @@ use mathlib.Core.List.{List, _++_}
 use lib.ListN.{length, getD, drop}
 use Rattle.refusal.specs.Given.{Given}
 use Rattle.text.specs.Utf8.{FirstBad}
-use Rattle.marking.specs.Spans.{In}
+use Rattle.scan.specs.Member.{In}
 use Rattle.block.specs.Block.{Placed}
 use Rattle.row.specs.declared.Definition.{Definition}
 use Rattle.row.specs.Row as definitionTable

@@ -12,7 +12,7 @@ use Rattle.label.specs.Reading.{inky, fitsAfter, fits, labelEnd, unclosed, isLa
 use Rattle.target.specs.Reading.{spaceFrom, depthAfter, rawStep, rawRun, judged, destinationOf, closer, titleOf}
 use Rattle.matching.specs.Form.{fold}
 use Rattle.matching.specs.Reading.{spaced, formOf, compared, equals, matches}
-use Rattle.marking.specs.Scan.{spans, finish, scan, scanStep, scanFound, scanStart, over, overs, overWithin}
+use Rattle.marking.specs.ReadingSpans.{spans, finish, scan, scanStep, scanFound, scanStart, over, overs, overWithin}
 use Rattle.block.specs.Reading.{blankLine, lineLength, blockRest, blockLength, partLength, blockHere, blocks}
 use Rattle.rows.specs.Rows.{rows, filled}
 use Rattle.row.specs.Row as definitionTable
@@ -20,10 +20,8 @@ use Rattle.row.specs.Reading.{matchFrom}
 use Rattle.definition.specs.Reading as definition
 use Rattle.definition.specs.Reading.{definitions, paragraphs}
 use Rattle.span.specs.Row as spanTable
-use Rattle.inline.specs.CodeSpan.{countAfter, runStep, runDone, closingRun}
-use Rattle.inline.specs.Start.{pieceFrom}
-use Rattle.inline.specs.Inline.{closedAt, afterDestination, inlineOf}
-use Rattle.inline.specs.References.{labelAfter, textTail, tailOf}
+use Rattle.inline.specs.ReadingPieces.{countAfter, runStep, runDone, closingRun, pieceFrom}
+use Rattle.inline.specs.ReadingTails.{closedAt, afterDestination, inlineOf, labelAfter, textTail, tailOf}
 use Rattle.note.specs.Reading.{labels, rowsIn, spanRows, deepIn, firstDeep}
 use Rattle.notice.specs.declared.Reading.{Reading}
 use Rattle.notice.specs.declared.Reading.the-variants.{Read, Long, Bad, FewDefinitions, Deep, FewSpans}

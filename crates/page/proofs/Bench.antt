@@ -3,7 +3,7 @@ use mathlib.Core.Path.{_≡_, sym, ap, _∙_}
 use mathlib.Core.Option.{Option·some-injective}
 use mathlib.Core.List.{List}
 use lib.ListN.{getElem?}
-use Rattle.marking.specs.Spans.{In}
+use Rattle.scan.specs.Member.{In}
 use Rattle.note.proofs.Members.{mapped-at}
 use Rattle.page.specs.Page.{PageIs}
 use Rattle.page.specs.Samples.{Sample, samples, readOne, samples-hold}

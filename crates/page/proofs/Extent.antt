@@ -5,7 +5,8 @@ use mathlib.Core.Path.{_≡_, ap, _∙_, subst}
 use mathlib.Core.List.{List}
 use mathlib.Core.Bool.{false, true≢false}
 use Rattle.marking.specs.Marking.{Marking}
-use Rattle.marking.specs.Spans.{Span, codeSpan, linkSpan, SpanOf, In}
+use Rattle.scan.specs.Member.{In}
+use Rattle.marking.specs.Spans.{Span, codeSpan, linkSpan, SpanOf}
 use Rattle.block.specs.Block.{Placed}
 use Rattle.row.specs.declared.Definition.{Definition}
 use Rattle.row.specs.First.{labelsOf}

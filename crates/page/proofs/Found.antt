@@ -6,7 +6,7 @@ use mathlib.Core.List.{List, [], _∷_}
 use mathlib.Core.Bool.{Bool, true, false}
 use lib.ListN.{getElem?}
 use Rattle.scan.proofs.Test.{by}
-use Rattle.marking.specs.Spans.{In}
+use Rattle.scan.specs.Member.{In}
 use Rattle.page.specs.Reading.{firstRow}
 
 pub none-if : (o : Option (List ℕ)) → ((r : List ℕ) → o ≡ some r → ⊥) → o ≡ none

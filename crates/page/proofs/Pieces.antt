@@ -11,14 +11,15 @@ use borrow.Author.Tests.{eq-eqb, eqb-true, not-true}
 use lib.ListN.{length, getElem?}
 use Rattle.scan.proofs.Test.{and-left, and-right}
 use Rattle.marking.specs.Marking.{Kind, escape, code, plain, opens, closes, tail, Role, opening, closing, trailing, role, Piece, Marking, At, Plays, Paired}
-use Rattle.marking.specs.Spans.{Span, codeSpan, linkSpan, SpanOf, CodeOf, LinkOf, In}
+use Rattle.scan.specs.Member.{In}
+use Rattle.marking.specs.Spans.{Span, codeSpan, linkSpan, SpanOf, CodeOf, LinkOf}
 use Rattle.marking.proofs.Tiles.{tiles-order}
 use Rattle.marking.proofs.Pairs.{link-pair}
 use Rattle.marking.proofs.Roles.{nothing≢trailing, opening≢trailing, closing≢trailing}
 use Rattle.block.specs.Block.{Placed}
 use Rattle.row.specs.declared.Definition.{Definition}
 use Rattle.row.specs.First.{labelsOf}
-use Rattle.inline.specs.PieceBounds.{sized}
+use Rattle.inline.proofs.PieceBounds.{sized}
 use Rattle.inline.specs.Tails.{Tail, inline, full, collapsed, shortcut}
 use Rattle.inline.specs.ReadingRows.{spanRow}
 use Rattle.inline.proofs.Starting.{starts-iff}

@@ -24,7 +24,7 @@ use Rattle.inline.specs.Pieces.{Starts, an-escape, code-span, backticks, openin
 use Rattle.inline.specs.Tails.{Tail, lengthOf}
 use Rattle.inline.specs.Rows.{rowEnd}
 use Rattle.inline.specs.ReadingRows.{textOf, spanRow}
-use Rattle.inline.specs.PieceBounds.{sized}
+use Rattle.inline.proofs.PieceBounds.{sized}
 use Rattle.inline.proofs.Ticks.{ticks-in}
 use Rattle.inline.proofs.Starting.{starts-iff}
 use Rattle.inline.proofs.SpanBounds.{SpanWithin, span-within}

@@ -10,14 +10,14 @@ use Rattle.note.specs.Note.{depthLimit}
 use Rattle.marking.specs.Marking.{Marking, Meets}
 use Rattle.marking.specs.Open.{FirstOver}
 use Rattle.marking.specs.Spans as marked
-use Rattle.marking.specs.Scan.{spans, over}
+use Rattle.marking.specs.ReadingSpans.{spans, over}
 use Rattle.row.specs.declared.Definition.{Definition}
 use Rattle.span.specs.declared.Span.{Span}
 use Rattle.span.specs.Row.{numbers, filled}
 use Rattle.span.proofs.Filled.{store-next}
 use Rattle.inline.specs.Tails.{Tail}
 use Rattle.inline.specs.Paragraph.{rules}
-use Rattle.inline.specs.Grammar.{grammar}
+use Rattle.inline.specs.Reading.{grammar}
 use Rattle.inline.specs.ReadingRows.{rowFor, spanRow, spanRows}
 use Rattle.inline.proofs.Demand3.{first-bracket-too-many, never-too-many}
 use Rattle.inline.proofs.SpanRows.{rows-are-read}

@@ -20,14 +20,14 @@ use Rattle.row.specs.Reading.{definitionsFrom, firstMatch, Fit}
 use Rattle.row.proofs.First.{first-equal}
 use Rattle.span.specs.Row.{Small}
 use Rattle.inline.specs.Tails.{Tail, inline, full, collapsed, shortcut, lengthOf}
-use Rattle.inline.specs.Inline.{inlineOf}
-use Rattle.inline.specs.TailBounds.{PartIn, InlineWithin, inlineOf-within}
+use Rattle.inline.specs.ReadingTails.{inlineOf, labelAfter, emptyAfter, fullBy, shortBy, textTail, referenceBy, moved, tailBy, tailOf}
+use Rattle.inline.proofs.TailBounds.{PartIn, InlineWithin, inlineOf-within}
 use Rattle.inline.specs.declared.InlineParts.{InlineParts}
-use Rattle.inline.specs.References.{labelAfter, emptyAfter, fullBy, shortBy, textTail, referenceBy, moved, tailBy, tailOf}
 use Rattle.inline.specs.Rows.{fromNote?}
 use Rattle.inline.specs.declared.InlineTail.{InlineTail}
 use Rattle.inline.specs.declared.InlineTail.the-variants as inlines
-use Rattle.inline.specs.Grammar.{tailAt, tail-within}
+use Rattle.inline.specs.Reading.{tailAt}
+use Rattle.inline.proofs.Computing.{tail-within}
 use Rattle.paragraph.specs.Tail.{labelsIn, shown, Names}
 use Rattle.paragraph.specs.Rows.{linkRow}
 use Rattle.paragraph.specs.Walk.{Pair, Bounds}

@@ -16,9 +16,9 @@ use Rattle.row.specs.Row.{range}
 use Rattle.span.specs.declared.Span.{Span}
 use Rattle.span.specs.Row as row
 use Rattle.inline.specs.Pieces.{backtick}
-use Rattle.inline.specs.CodeSpan.{closingRun}
-use Rattle.inline.specs.Start.{piece, spanOrText, ticked, pieceFrom, from-backticks}
-use Rattle.inline.specs.PieceBounds.{closingRun-within, run-fits}
+use Rattle.inline.specs.ReadingPieces.{closingRun, piece, spanOrText, ticked, pieceFrom}
+use Rattle.inline.proofs.Turns.{from-backticks}
+use Rattle.inline.proofs.PieceBounds.{closingRun-within, run-fits}
 use Rattle.inline.specs.ReadingRows.{rowFor}
 use Rattle.paragraph.specs.Walk.{BacktickAt}
 use Rattle.paragraph.specs.declared.Walk.{Walk}

@@ -14,8 +14,8 @@ use Rattle.row.specs.Row.{range, absent}
 use Rattle.row.specs.Reading.{definitionAt, definitionsFrom}
 use Rattle.span.specs.Row.{span, Small}
 use Rattle.inline.specs.Tails as told
-use Rattle.inline.specs.Start.{piece}
-use Rattle.inline.specs.References.{moved}
+use Rattle.inline.specs.ReadingPieces.{piece}
+use Rattle.inline.specs.ReadingTails.{moved}
 use Rattle.inline.specs.Rows.{Target, fromNote?, defined, targetOf}
 use Rattle.inline.specs.ReadingRows.{kindNumber}
 use Rattle.paragraph.specs.Tail.{shown, Names}

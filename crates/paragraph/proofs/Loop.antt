@@ -11,17 +11,18 @@ use Rattle.note.specs.Note.{depthLimit}
 use Rattle.scan.proofs.Test.{by}
 use Rattle.marking.specs.Marking.{role, Piece}
 use Rattle.marking.specs.Spans as marked
-use Rattle.marking.specs.Grammar.{Grammar}
-use Rattle.marking.specs.Reading.{Found, alone, paired, linked, isCode, stackBy, pieceAt, placeAfter, lastAfter, newSpans}
-use Rattle.marking.specs.Scan.{Scan, scanFound, scanStep, scanStart, finish, spans, overAt, overs, over}
+use Rattle.marking.specs.ReadingRules.{Grammar}
+use Rattle.marking.specs.Reading.{Match, alone, paired, linked, isCode, stackBy, pieceAt, placeAfter, lastAfter, newSpans}
+use Rattle.marking.specs.ReadingSpans.{Scan, scanFound, scanStep, scanStart, finish, spans, overAt, overs, over}
 use Rattle.marking.proofs.Finish.{finish-step, finish-end, overs-step, overs-end, scan-grows, scan-within}
 use Rattle.row.specs.declared.Definition.{Definition}
 use Rattle.span.specs.declared.Span.{Span}
 use Rattle.span.specs.Row.{stored}
 use Rattle.inline.specs.Tails.{Tail}
-use Rattle.inline.specs.Start.{pieceFrom}
-use Rattle.inline.specs.Grammar.{grammar}
+use Rattle.inline.specs.ReadingPieces.{pieceFrom}
+use Rattle.inline.specs.Reading.{grammar}
 use Rattle.inline.specs.ReadingRows.{rowFor}
+use Rattle.inline.proofs.Computing.{sound}
 use Rattle.paragraph.specs.Rows.{storedAll}
 use Rattle.paragraph.specs.Walk.{spansAt, Steps, Reads}
 use Rattle.paragraph.specs.declared.Walk.{Walk}
@@ -36,7 +37,7 @@ stored-more t k (x ∷ xs) ys =
     ap (λ (n : ℕ). storedAll (storedAll (stored t k x) (k + 1) xs) n ys) e ∙ stored-more (stored t k x) (k + 1) xs ys
 
 -- ---- a step of the scan
-few-spans : {T : Type 0} (f : ℕ → Piece) (q : Piece) (x : Found T) → length (newSpans f q x) ≤ 1
+few-spans : {T : Type 0} (f : ℕ → Piece) (q : Piece) (x : Match T) → length (newSpans f q x) ≤ 1
 few-spans f q alone = by (isCode (q .kind)) (λ e. rw e (omega arith)) (λ e. rw e (omega arith))
 few-spans f q (paired i) = omega arith
 few-spans f q (linked i t) = omega arith
@@ -106,16 +107,16 @@ module _ (offset : ℕ) (p : List ℕ) (labels : List (List ℕ)) (ds : List Def
       here = scanOf stack depth w (o .xs)
 
       -- the spans that end here
-      abbrev more : Found Tail → List (marked.Span Tail)
+      abbrev more : Match Tail → List (marked.Span Tail)
       more = spansAt offset p labels ds (w .at)
 
-      module _ (stack′ : List ℕ) (depth′ : ℕ) {f : Found Tail} {w′ : Walk} {u : List ℕ} (s : Steps offset p labels ds f w t w′ u) (ef : scanFound g here ≡ f)
+      module _ (stack′ : List ℕ) (depth′ : ℕ) {f : Match Tail} {w′ : Walk} {u : List ℕ} (s : Steps offset p labels ds f w t w′ u) (ef : scanFound g here ≡ f)
           (es : stackBy (w .at) (reverse (take depth stack)) (role (pieceFrom p (w .at) .kind)) ≡ reverse (take depth′ stack′)) where
         next : scanStep g here ≡ scanOf stack′ depth′ w′ (o .xs ++ more f)
         unfolding scanStep
         next =
             ap
-            (λ (x : Found Tail).
+            (λ (x : Match Tail).
             (record {
               place = placeAfter g (pieceAt g (w .at)) x;
               stack = stackBy (w .at) (reverse (take depth stack)) (role (pieceFrom p (w .at) .kind));
@@ -126,19 +127,19 @@ module _ (offset : ℕ) (p : List ℕ) (labels : List (List ℕ)) (ds : List Def
             ∙ scan-eq (o .xs ++ more f) (sym (s .at)) es (sym (s .last))
 
         pub on-less : w .at < w′ .at
-        on-less = omega (arith, scan-grows g here h, ap (λ (x : Scan Tail). x .place) next)
+        on-less = omega (arith, scan-grows g (sound p labels) here h, ap (λ (x : Scan Tail). x .place) next)
 
         pub on-next : overAt depthLimit g here ≡ false → depth′ ≤ depthLimit → length stack′ ≡ depthLimit → Waits p (w′ .at) stack′ depth′ → On stack′ depth′ w′ u
         on-next eo fits full waits =
             let l : length (o .xs ++ more f) ≡ length (o .xs) + length (more f) = length-append (o .xs) (more f) in
             record {
               xs = o .xs ++ more f;
-              same-end = ap (finish g) (sym next) ∙ sym (finish-step g here h) ∙ o .same-end;
-              same-over = ap (overs depthLimit g) (sym next) ∙ sym (overs-step depthLimit g here h eo) ∙ o .same-over;
+              same-end = ap (finish g) (sym next) ∙ sym (finish-step g (sound p labels) here h) ∙ o .same-end;
+              same-over = ap (overs depthLimit g) (sym next) ∙ sym (overs-step depthLimit g (sound p labels) here h eo) ∙ o .same-over;
               row-is = omega (arith, s .row, o .row-is);
               table-is = table-more;
               few = omega (arith, o .few, few-spans (pieceAt g) (pieceAt g (w .at)) f, on-less);
-              bounded = omega (arith, scan-within g here h, ap (λ (x : Scan Tail). x .place) next);
+              bounded = omega (arith, scan-within g (sound p labels) here h, ap (λ (x : Scan Tail). x .place) next);
               waits = waits;
               fits = fits;
               full = full;

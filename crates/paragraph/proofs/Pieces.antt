@@ -13,7 +13,8 @@ use Rattle.scan.specs.Byte.{escapes}
 use Rattle.marking.specs.Marking.{opens, closes, plain}
 use Rattle.marking.specs.Reading.{isCode}
 use Rattle.inline.specs.Pieces.{quiet}
-use Rattle.inline.specs.Start.{piece, kindOf, pieceFrom, from-byte}
+use Rattle.inline.specs.ReadingPieces.{piece, kindOf, pieceFrom}
+use Rattle.inline.proofs.Turns.{from-byte}
 
 module _ (p : List ℕ) (a : ℕ) where
   pub no-escape : (getD p a 0 ≡ 92 → ⊥) → escapes (drop a p) ≡ false

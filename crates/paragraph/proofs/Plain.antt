@@ -12,8 +12,8 @@ use Rattle.scan.specs.Reading.{run, past}
 use Rattle.marking.specs.Marking.{plain}
 use Rattle.row.specs.declared.Definition.{Definition}
 use Rattle.inline.specs.Pieces.{quiet}
-use Rattle.inline.specs.Start.{piece}
-use Rattle.inline.specs.PieceBounds.{run-fits}
+use Rattle.inline.specs.ReadingPieces.{piece}
+use Rattle.inline.proofs.PieceBounds.{run-fits}
 use Rattle.paragraph.specs.declared.Walk.{Walk}
 use Rattle.paragraph.proofs.Pieces.{quiet-other, at-quiet}
 use Rattle.paragraph.proofs.Step.{step-quiet}

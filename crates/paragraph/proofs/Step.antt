@@ -10,13 +10,13 @@ use lib.Dec.{ltb}
 use lib.ListN.{getD}
 use Rattle.marking.specs.Marking.{code, Piece}
 use Rattle.marking.specs.Spans as marked
-use Rattle.marking.specs.Reading.{Found, alone, paired, linked, isCode, withTail, pieceAt}
+use Rattle.marking.specs.Reading.{Match, alone, paired, linked, isCode, withTail, pieceAt}
 use Rattle.row.specs.declared.Definition.{Definition}
 use Rattle.span.specs.declared.Span.{Span}
 use Rattle.span.specs.Row.{stored}
 use Rattle.inline.specs.Tails.{Tail, lengthOf}
-use Rattle.inline.specs.Start.{piece, pieceFrom}
-use Rattle.inline.specs.Grammar.{grammar, tailAt}
+use Rattle.inline.specs.ReadingPieces.{piece, pieceFrom}
+use Rattle.inline.specs.Reading.{grammar, tailAt}
 use Rattle.inline.specs.ReadingRows.{rowFor}
 use Rattle.paragraph.specs.Rows.{linkRow, storedAll}
 use Rattle.paragraph.specs.Walk.{spansAt, Steps, closing}
@@ -27,7 +27,7 @@ abbrev codeSpans : Piece → List (marked.Span Tail)
 codeSpans q = marked.codeSpan q ∷ []
 
 module _ (offset : ℕ) (p : List ℕ) (labels : List (List ℕ)) (ds : List Definition) (v : Walk) (t : List ℕ) where
-  abbrev Passed : Found Tail → ℕ → ℕ → ℕ → List ℕ → Type 0
+  abbrev Passed : Match Tail → ℕ → ℕ → ℕ → List ℕ → Type 0
   Passed f at last row u = Steps offset p labels ds f v t (record { at = at; last = last; row = row }) u
 
   -- ---- a piece in no pair
@@ -57,7 +57,7 @@ module _ (offset : ℕ) (p : List ℕ) (labels : List (List ℕ)) (ds : List Def
         ap (λ (y : Bool). cond y (paired o) (withTail o (grammar p labels .tailAt (grammar p labels .endAt o) (v .at)))) eb
         ∙ ap (λ (y : Option Tail). cond b (paired o) (withTail o y)) (tail-here ∙ ex)
 
-    paired-step : (f : Found Tail) → f ≡ paired o → Passed f (v .at + 1) (v .last) (v .row) t
+    paired-step : (f : Match Tail) → f ≡ paired o → Passed f (v .at + 1) (v .last) (v .row) t
     unfolding storedAll
     paired-step f e =
         rw e (record { at = ap (λ (x : Piece). x .end) (sym (at-close p (v .at) hc)); last = refl; row = omega arith; table = refl })
@@ -69,7 +69,7 @@ module _ (offset : ℕ) (p : List ℕ) (labels : List (List ℕ)) (ds : List Def
     pub step-tailless : v .last ≤ o → none ≡ tailAt p labels (o + 1) (v .at) → Passed (closing offset p labels ds v o) (v .at + 1) (v .last) (v .row) t
     step-tailless h e = paired-step _ (closing-by false (le-ltb o (v .last) h) _ (sym e))
 
-    linked-step : (f : Found Tail) (x : Tail) → f ≡ linked o x → {n : ℕ} {r : Span} {u : List ℕ} → n ≡ lengthOf x → r ≡ linkRow offset ds o (v .at) x
+    linked-step : (f : Match Tail) (x : Tail) → f ≡ linked o x → {n : ℕ} {r : Span} {u : List ℕ} → n ≡ lengthOf x → r ≡ linkRow offset ds o (v .at) x
         → u ≡ stored t (v .row) r → Passed f (v .at + 1 + n) o (v .row + 1) u
     unfolding storedAll
     linked-step f x e en er eu =

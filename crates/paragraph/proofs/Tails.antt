@@ -10,9 +10,8 @@ use lib.Seq.{take-all}
 use Rattle.scan.specs.declared.Found.{Found}
 use Rattle.label.specs.Reading.{isLabel}
 use Rattle.row.specs.Reading.{firstMatch, rowOf}
-use Rattle.inline.specs.Inline.{inlineOf}
-use Rattle.inline.specs.References.{labelAfter, emptyAfter, fullBy, shortBy, textTail, referenceBy, referenceOf, tailBy, tailOf}
-use Rattle.inline.specs.Grammar.{tailAt}
+use Rattle.inline.specs.ReadingTails.{inlineOf, labelAfter, emptyAfter, fullBy, shortBy, textTail, referenceBy, referenceOf, tailBy, tailOf}
+use Rattle.inline.specs.Reading.{tailAt}
 use Rattle.inline.specs.declared.InlineTail.{InlineTail}
 use Rattle.inline.specs.declared.InlineTail.the-variants as inlines
 use Rattle.paragraph.specs.Tail.{labelsIn}

@@ -19,16 +19,16 @@ use Rattle.scan.specs.declared.Found.{Found as Place}
 use Rattle.scan.specs.declared.Found.the-variants as place
 use Rattle.marking.specs.Marking.{Role, nothing, opening, closing, role, Piece, opens}
 use Rattle.marking.specs.Reading.{alone, foundBy, foundClosing, stackBy}
-use Rattle.marking.specs.Scan.{spans, scanFound, tooDeep, over}
+use Rattle.marking.specs.ReadingSpans.{spans, scanFound, tooDeep, over}
 use Rattle.marking.proofs.Finish.{overs-deep}
 use Rattle.row.specs.declared.Definition.{Definition}
 use Rattle.row.specs.Row.{range}
 use Rattle.row.specs.First.{bytesOf}
 use Rattle.inline.specs.Pieces.{backtick}
 use Rattle.inline.specs.Tails.{Tail}
-use Rattle.inline.specs.CodeSpan.{closingRun}
-use Rattle.inline.specs.Start.{piece, spanOrText, pieceFrom, from-escape, from-backticks, from-byte}
-use Rattle.inline.specs.Grammar.{grammar}
+use Rattle.inline.specs.ReadingPieces.{closingRun, piece, spanOrText, pieceFrom}
+use Rattle.inline.proofs.Turns.{from-escape, from-backticks, from-byte}
+use Rattle.inline.specs.Reading.{grammar}
 use Rattle.paragraph.specs.Walk as walk
 use Rattle.paragraph.specs.Walk.{Steps, Reads, markedBy, Pair, Bounds, Lies}
 use Rattle.paragraph.specs.declared.Walk.{Walk}

@@ -3,13 +3,13 @@ use Prim.Native.Nat.{ℕ, _+_}
 use mathlib.Core.List.{List, [], _∷_, map}
 use Rattle.marking.specs.Marking.{opens, closes}
 use Rattle.marking.specs.Spans as marked
-use Rattle.marking.specs.Scan.{spans}
+use Rattle.marking.specs.ReadingSpans.{spans}
 use Rattle.row.specs.declared.Definition.{Definition}
 use Rattle.span.specs.declared.Span.{Span}
 use Rattle.span.specs.Row.{stored}
 use Rattle.inline.specs.Tails.{Tail}
-use Rattle.inline.specs.Start.{piece}
-use Rattle.inline.specs.Grammar.{grammar}
+use Rattle.inline.specs.ReadingPieces.{piece}
+use Rattle.inline.specs.Reading.{grammar}
 use Rattle.inline.specs.ReadingRows.{rowFor}
 
 -- the row of a link from its `[` at place o and its `]` at place c

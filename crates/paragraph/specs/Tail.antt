@@ -6,7 +6,7 @@ use Rattle.row.specs.First.{labelsOf}
 use Rattle.row.specs.Row.{wholeRows}
 use Rattle.row.specs.Reading.{definitionsFrom}
 use Rattle.inline.specs.Tails as told
-use Rattle.inline.specs.References.{movedParts}
+use Rattle.inline.specs.ReadingTails.{movedParts}
 use Rattle.paragraph.specs.declared.tail.Tail.{Tail}
 use Rattle.paragraph.specs.declared.tail.Tail.the-variants.{Inline, Full, Collapsed, Shortcut}
 use Rattle.paragraph.specs.declared.tail.Ending.{Ending}

@@ -6,11 +6,11 @@ use mathlib.Core.List.{List, [], _∷_, map}
 use lib.ListN.{length, getD}
 use Rattle.note.specs.Note.{depthLimit}
 use Rattle.marking.specs.Spans as marked
-use Rattle.marking.specs.Reading.{Found, alone, foundClosing, pieceAt, placeAfter, lastAfter, newSpans}
-use Rattle.marking.specs.Scan.{spans, over}
+use Rattle.marking.specs.Reading.{Match, alone, foundClosing, pieceAt, placeAfter, lastAfter, newSpans}
+use Rattle.marking.specs.ReadingSpans.{spans, over}
 use Rattle.row.specs.declared.Definition.{Definition}
 use Rattle.inline.specs.Tails.{Tail}
-use Rattle.inline.specs.Grammar.{grammar}
+use Rattle.inline.specs.Reading.{grammar}
 use Rattle.inline.specs.ReadingRows.{rowFor}
 use Rattle.paragraph.specs.Rows.{rowsFor, storedAll}
 use Rattle.paragraph.specs.declared.Walk.{Walk}
@@ -45,18 +45,18 @@ pub record Lies (note : List ℕ) (start end count k : ℕ) : Type 0 where
 
 module _ (offset : ℕ) (p : List ℕ) (labels : List (List ℕ)) (ds : List Definition) where
   -- the spans that end with the piece at place `at`, by what it comes to
-  abbrev pub spansAt : ℕ → Found Tail → List (marked.Span Tail)
+  abbrev pub spansAt : ℕ → Match Tail → List (marked.Span Tail)
   spansAt at f = newSpans (pieceAt (grammar p labels)) (pieceAt (grammar p labels) at) f
 
   -- A step from v with the table t to w with the table u, past the piece at v's place, which comes to f.
-  pub record Steps (f : Found Tail) (v : Walk) (t : List ℕ) (w : Walk) (u : List ℕ) : Type 0 where
+  pub record Steps (f : Match Tail) (v : Walk) (t : List ℕ) (w : Walk) (u : List ℕ) : Type 0 where
     pub at : w .at ≡ placeAfter (grammar p labels) (pieceAt (grammar p labels) (v .at)) f
     pub last : w .last ≡ lastAfter (v .last) f
     pub row : w .row ≡ v .row + length (spansAt (v .at) f)
     pub table : u ≡ storedAll t (v .row) (map (rowFor offset p ds) (spansAt (v .at) f))
 
   -- what the `]` at v's place comes to with the `[` at place o
-  abbrev pub closing : Walk → ℕ → Found Tail
+  abbrev pub closing : Walk → ℕ → Match Tail
   closing v o = foundClosing (λ a. grammar p labels .tailAt (grammar p labels .endAt a) (v .at)) (v .last) (o ∷ [])
 
   -- past a `]` that closes a pair

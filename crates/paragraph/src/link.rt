@@ -4,7 +4,7 @@ ghost use Prim.Native.Nat.{_+_};
 ghost use Rattle.row.specs.Row.{SmallPart};
 ghost use Rattle.row.specs.Reading.{definitionsFrom};
 ghost use Rattle.span.specs.Row.{Small};
-ghost use Rattle.inline.specs.References.{moved};
+ghost use Rattle.inline.specs.ReadingTails.{moved};
 ghost use Rattle.inline.specs.Rows.{fromNote?};
 ghost use Rattle.paragraph.specs.Tail.{Names, shown};
 ghost use Rattle.paragraph.specs.Rows.{linkRow};

@@ -10,7 +10,7 @@ use Rattle.target.specs.declared.Part.{Part}
 use Rattle.target.specs.declared.Part.the-variants as part
 use Rattle.row.specs.declared.Range.{Range}
 use Rattle.row.specs.Row.{range, absent}
-use Rattle.inline.specs.Inline.{spaceEnd, closedAt, afterDestination}
+use Rattle.inline.specs.ReadingTails.{spaceEnd, closedAt, afterDestination}
 use Rattle.inline.specs.declared.InlineTail.{InlineTail}
 use Rattle.inline.specs.declared.InlineTail.the-variants.{Nothing}
 use Rattle.inline.proofs.after_destination.Statement.{statement}

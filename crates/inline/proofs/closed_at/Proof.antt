@@ -8,7 +8,7 @@ use mathlib.Core.List.{List}
 use lib.ListN.{length, getD}
 use Rattle.scan.proofs.Scan.{peek-inside}
 use Rattle.row.specs.declared.Range.{Range}
-use Rattle.inline.specs.Inline.{parts, closedAt}
+use Rattle.inline.specs.ReadingTails.{parts, closedAt}
 use Rattle.inline.specs.declared.InlineTail.the-variants.{Nothing}
 use Rattle.inline.proofs.closed_at.Statement.{statement}
 use Rattle.inline.proofs.closed_at.Tie as tie

@@ -4,7 +4,8 @@ use mathlib.Core.Path.{_≡_}
 use Prim.Native.Nat.{_-_, _≤_}
 use lib.ListN.{length, drop}
 use Rattle.scan.proofs.Scan.{stops, goes, ends}
-use Rattle.inline.specs.CodeSpan.{runFrom, closingRun, closes, passed, ends-full, ends-other, count-bounded}
+use Rattle.inline.specs.ReadingPieces.{runFrom, closingRun}
+use Rattle.inline.proofs.Turns.{closes, passed, ends-full, ends-other, count-bounded}
 use Rattle.inline.proofs.closing_run.Statement.{statement}
 use Rattle.inline.proofs.closing_run.Tie as tie
 

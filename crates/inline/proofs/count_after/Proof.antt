@@ -1,7 +1,7 @@
 -- Each `return` is one case of `countAfter`.
 use borrow.Author.Needs.{needs}
 use borrow.Author.Tests.{ne-eqb}
-use Rattle.inline.specs.CodeSpan.{countAfter}
+use Rattle.inline.specs.ReadingPieces.{countAfter}
 use Rattle.inline.proofs.count_after.Statement.{statement}
 use Rattle.inline.proofs.count_after.Tie as tie
 

@@ -8,7 +8,7 @@ use lib.ListN.{getD, drop}
 use Rattle.scan.specs.declared.Found.{Found}
 use Rattle.scan.specs.declared.Found.the-variants.{Nothing}
 use Rattle.label.specs.Reading.{labelEnd}
-use Rattle.inline.specs.References.{labelAfter}
+use Rattle.inline.specs.ReadingTails.{labelAfter}
 use Rattle.inline.proofs.label_after.Statement.{statement}
 use Rattle.inline.proofs.label_after.Tie as tie
 

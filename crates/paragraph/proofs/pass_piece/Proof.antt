@@ -1,7 +1,7 @@
 -- The byte, and whether an escape starts with it, decide the piece.
 use Rattle.paragraph.proofs.Step.{step-quiet}
 use Rattle.paragraph.proofs.Pieces.{byte-no-code}
-use Rattle.inline.specs.Start.{from-escape, from-byte}
+use Rattle.inline.proofs.Turns.{from-escape, from-byte}
 use lib.ListN.{getD}
 use borrow.Author.Tests.{ne-eqb}
 use mathlib.Core.Path.{refl, sym, _∙_}

@@ -1,5 +1,5 @@
 -- The label that follows decides; it lies within what follows.
-use Rattle.inline.specs.TailBounds.{label-inside}
+use Rattle.inline.proofs.TailBounds.{label-inside}
 use Rattle.paragraph.proofs.Tails.{reference-by}
 use native.Mathlib.Omega.{arith}
 use mathlib.Core.Path.{sym, _∙_}

@@ -25,8 +25,7 @@ use Rattle.row.specs.Row.{range, absent}
 use Rattle.row.specs.Reading.{firstMatch}
 use Rattle.inline.specs.declared.InlineParts.{InlineParts}
 use Rattle.inline.specs.Tails.{Tail, lengthOf}
-use Rattle.inline.specs.Inline.{spaceEnd, closedAt, titled, afterDestination, bodyOf, inlineOf}
-use Rattle.inline.specs.References.{labelAfter, emptyAfter, fullBy, shortBy, textTail, referenceBy, tailBy, tailOf}
+use Rattle.inline.specs.ReadingTails.{spaceEnd, closedAt, titled, afterDestination, bodyOf, inlineOf, labelAfter, emptyAfter, fullBy, shortBy, textTail, referenceBy, tailBy, tailOf}
 use Rattle.inline.specs.declared.InlineTail.{InlineTail}
 use Rattle.inline.specs.declared.InlineTail.the-variants as inlines
 

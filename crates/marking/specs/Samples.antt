@@ -1,49 +1,23 @@
 -- Samples by computation, over a toy grammar: `[` opens, `]` closes, any other byte is plain, and the only tail is `()`.
 use mathlib.Core.Path.{_≡_, refl}
-use mathlib.Core.Logic.{_≢_}
-use mathlib.Core.Bool.{Bool, true, false, cond}
-use mathlib.Core.Option.{Option, none, some, Option·some-injective, Option·none-ne-some}
+use mathlib.Core.Bool.{true, cond}
+use mathlib.Core.Option.{Option, none, some}
 use mathlib.Core.List.{List, [], _∷_, map}
-use Prim.Native.Nat.{ℕ, suc, _+_, _≤_, _<_}
-use native.Mathlib.Decide.{decLt}
-use native.Mathlib.Omega.{arith}
+use Prim.Native.Nat.{ℕ, suc, _+_}
 use lib.Dec.{eqb}
-use lib.ListN.{length, getD, List·getD-eq-default}
-use borrow.Author.Tests.{eqb-true}
-use Rattle.marking.specs.Marking.{Kind, plain, opens, closes, role, trailing}
+use lib.ListN.{length, getD}
+use Rattle.marking.specs.Marking.{Kind, plain, opens, closes}
 use Rattle.marking.specs.Spans.{Span, codeSpan, linkSpan}
 use Rattle.marking.specs.Open.{openedBefore, pairedBefore, openBrackets}
-use Rattle.marking.specs.Grammar.{Grammar}
+use Rattle.marking.specs.ReadingRules.{Grammar}
 use Rattle.marking.specs.Reading.{reading, run, step, found, extend, start}
-use Rattle.marking.specs.Scan.{spans, finish, scan, scanStep, scanFound, scanStart, over, overs, overWithin}
-use Rattle.marking.proofs.Roles.{nothing≢trailing, opening≢trailing, closing≢trailing}
+use Rattle.marking.specs.ReadingSpans.{spans, finish, scan, scanStep, scanFound, scanStart, over, overs, overWithin}
 
 abbrev kindOf : ℕ → Kind
 kindOf b = cond (eqb b 91) opens (cond (eqb b 93) closes plain)
 
 abbrev tailOf : List ℕ → ℕ → ℕ → Option ℕ
 tailOf p o s = cond (eqb (getD p (s + 1) 0) 40) (cond (eqb (getD p (s + 2) 0) 41) (some 2) none) none
-
-no-trailing : (a b : Bool) → role (cond a opens (cond b closes plain)) ≢ trailing
-no-trailing true b e = opening≢trailing e
-no-trailing false true e = closing≢trailing e
-no-trailing false false e = nothing≢trailing e
-
-in-range : (p : List ℕ) (i v : ℕ) → getD p i 0 ≡ suc v → i < length p
-in-range p i v e = by (decLt i (length p))
-  where
-    by : Dec (i < length p) → i < length p
-    by (yes h) = h
-    by (no h) = let z : getD p i 0 ≡ 0 = List·getD-eq-default p 0 (let w : length p ≤ i = omega arith in w) in absurd (omega arith)
-
-fits : (p : List ℕ) (o s t : ℕ) → tailOf p o s ≡ some t → suc s + t ≤ length p
-fits p o s t e = by (eqb (getD p (s + 1) 0) 40) (eqb (getD p (s + 2) 0) 41) refl e
-  where
-    by : (a b : Bool) → eqb (getD p (s + 2) 0) 41 ≡ b → cond {A = Option ℕ} a (cond b (some 2) none) none ≡ some t → suc s + t ≤ length p
-    by true true h e′ = let w : 2 ≡ t = Option·some-injective 2 t e′ in omega (arith, in-range p (s + 2) 40 (eqb-true (getD p (s + 2) 0) 41 h))
-    by true false h e′ = absurd (Option·none-ne-some t e′)
-    by false true h e′ = absurd (Option·none-ne-some t e′)
-    by false false h e′ = absurd (Option·none-ne-some t e′)
 
 abbrev toy : List ℕ → Grammar ℕ
 toy p =
@@ -53,10 +27,6 @@ toy p =
       endAt = λ i. suc i;
       tailAt = tailOf p;
       lengthOf = λ t. t;
-      grows = λ s h. omega arith;
-      within = λ s h. h;
-      no-tail = λ s h. no-trailing (eqb (getD p s 0) 91) (eqb (getD p s 0) 93);
-      tail-within = λ o s t h k e. fits p o s t e;
     }
 
 -- a span's kind, start and end

@@ -1,18 +1,41 @@
 -- The piece that starts at a place, by the bytes there.
 use Prim.Native.Nat.{ℕ, _+_}
-use mathlib.Core.Path.{_≡_}
 use mathlib.Core.List.{List}
-use mathlib.Core.Bool.{true, false, cond}
+use mathlib.Core.Bool.{true, false, cond, not, _&&_}
 use lib.ListN.{getD, drop}
 use lib.Dec.{eqb}
 use Rattle.scan.specs.Byte.{escapes}
-use Rattle.scan.specs.Reading.{run}
+use Rattle.scan.specs.Reading.{Step, stop, next, scan, run}
 use Rattle.scan.specs.declared.Found.{Found}
 use Rattle.scan.specs.declared.Found.the-variants.{At, Nothing}
 use Rattle.marking.specs.Marking.{Kind, Piece, escape, code, plain, opens, closes}
 use Rattle.inline.specs.Pieces.{backtick}
-use Rattle.inline.specs.CodeSpan.{closingRun}
 
+-- ---- where the run of backticks that closes a code span ends: one pass, with a count of the backticks just before the place
+-- a place, and how many backticks stand just before it
+pub record Counted : Type 0 where
+  pub at : ℕ
+  pub count : ℕ
+
+unfoldable pub countAfter : ℕ → ℕ → ℕ
+countAfter c b = cond (backtick b) (c + 1) 0
+
+module _ (n : ℕ) where
+  unfoldable pub runStep : Counted → ℕ → List ℕ → Step Counted Found
+  runStep t b s =
+      cond (not (backtick b) && eqb (t .count) n) (stop (At (t .at))) (next (record { at = t .at + 1; count = countAfter (t .count) b }))
+
+  unfoldable pub runDone : Counted → Found
+  runDone t = cond (eqb (t .count) n) (At (t .at)) Nothing
+
+  abbrev pub runFrom : List ℕ → Counted → Found
+  runFrom = scan runStep runDone
+
+  -- where the first maximal run of exactly n ends, in a text that starts at place `at` and not inside a run
+  unfoldable pub closingRun : List ℕ → ℕ → Found
+  closingRun s at = runFrom s (record { at = at; count = 0 })
+
+-- ---- the piece
 abbrev pub piece : Kind → ℕ → ℕ → Piece
 piece k a e = record { kind = k; start = a; end = e }
 
@@ -34,17 +57,3 @@ pieceFrom p a =
       | true ↦ piece escape a (a + 2)
       | false ↦ elim (backtick (getD p a 0)) [ true ↦ ticked p a (run backtick (drop a p)) | false ↦ piece (kindOf (getD p a 0)) a (a + 1) ]
     ]
-
--- ---- one equation for each kind of start
-module _ (p : List ℕ) (a : ℕ) where
-  pub from-escape : escapes (drop a p) ≡ true → pieceFrom p a ≡ piece escape a (a + 2)
-  unfolding pieceFrom
-  from-escape e = rw (pieceFrom, e)
-
-  pub from-backticks : escapes (drop a p) ≡ false → backtick (getD p a 0) ≡ true → pieceFrom p a ≡ ticked p a (run backtick (drop a p))
-  unfolding pieceFrom
-  from-backticks e t = rw (pieceFrom, e, t)
-
-  pub from-byte : escapes (drop a p) ≡ false → backtick (getD p a 0) ≡ false → pieceFrom p a ≡ piece (kindOf (getD p a 0)) a (a + 1)
-  unfolding pieceFrom
-  from-byte e t = rw (pieceFrom, e, t)

@@ -16,8 +16,8 @@ use Rattle.scan.specs.declared.Found.the-variants.{At, Nothing}
 use Rattle.marking.specs.Marking.{Kind, Piece, escape, code, plain, opens, closes, role, nothing, closing, trailing}
 use Rattle.marking.proofs.Roles.{nothing≢closing, nothing≢trailing, opening≢trailing, closing≢trailing}
 use Rattle.inline.specs.Pieces.{backtick}
-use Rattle.inline.specs.CodeSpan.{Counted, runStep, runDone, closingRun}
-use Rattle.inline.specs.Start.{piece, spanOrText, kindOf, pieceFrom, from-escape, from-backticks, from-byte}
+use Rattle.inline.specs.ReadingPieces.{Counted, runStep, runDone, closingRun, piece, spanOrText, kindOf, pieceFrom}
+use Rattle.inline.proofs.Turns.{from-escape, from-backticks, from-byte}
 
 -- ---- the run that closes a code span
 abbrev EndsIn : ℕ → ℕ → Found → Type 0

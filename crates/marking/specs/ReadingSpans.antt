@@ -8,8 +8,8 @@ use lib.Dec.{ltb, leb}
 use lib.ListN.{length}
 use Rattle.marking.specs.Marking.{Role, nothing, opening, closing, trailing, role}
 use Rattle.marking.specs.Spans.{Span}
-use Rattle.marking.specs.Grammar.{Grammar}
-use Rattle.marking.specs.Reading.{Found, foundBy, stackBy, pieceAt, placeAfter, lastAfter, newSpans}
+use Rattle.marking.specs.ReadingRules.{Grammar}
+use Rattle.marking.specs.Reading.{Match, foundBy, stackBy, pieceAt, placeAfter, lastAfter, newSpans}
 
 pub record Scan (T : Type 0) : Type 0 where
   pub place : ℕ
@@ -17,7 +17,7 @@ pub record Scan (T : Type 0) : Type 0 where
   pub last-link : ℕ
   pub spans : List (Span T)
 
-unfoldable pub scanFound : {T : Type 0} → Grammar T → Scan T → Found T
+unfoldable pub scanFound : {T : Type 0} → Grammar T → Scan T → Match T
 scanFound g s = foundBy (λ o. g .tailAt (g .endAt o) (s .place)) (s .last-link) (s .stack) (role (g .kindAt (s .place)))
 
 unfoldable pub scanStep : {T : Type 0} → Grammar T → Scan T → Scan T
