@@ -1,3 +1,4 @@
 pub mod Label
 pub mod Reading
+pub mod Claims
 pub mod Samples

@@ -1,4 +1,5 @@
 pub mod Test
+pub mod Member
 pub mod Scan
 pub mod Every
 pub mod Leap

@@ -1,20 +1,29 @@
--- The first unescaped delimiter and whole strides, by computation.
+-- The class of punctuation, the first unescaped delimiter and whole strides, by computation.
 use Prim.Native.Nat.{ℕ}
 use Prim.Native.String.{String}
 use mathlib.Core.Path.{_≡_, refl}
-use mathlib.Core.List.{List, [], _∷_}
+use mathlib.Core.List.{List, [], _∷_, map}
 use mathlib.Core.Bool.{Bool, true, false, _&&_}
+use lib.ListN.{replicate}
 use lib.Dec.{eqb}
+use Rattle.scan.specs.Byte.{punctuation}
 use Rattle.scan.specs.Ascii.{ascii}
 use Rattle.scan.specs.Reading.{scan, run, clear, pastStrides, closingStep, closing}
 use Rattle.scan.specs.declared.Found.{Found}
 use Rattle.scan.specs.declared.Found.the-variants.{At, Nothing}
 
-abbrev same : Found → Found → Bool
-same (At a) (At b) = eqb a b
-same (At a) Nothing = false
-same Nothing (At b) = false
-same Nothing Nothing = true
+-- at each bound of the class, and beside it
+pub punctuation-bounds : map punctuation (33 ∷ 47 ∷ 58 ∷ 64 ∷ 91 ∷ 96 ∷ 123 ∷ 126 ∷ []) ≡ replicate 8 true
+punctuation-bounds = refl
+
+pub beside-punctuation : map punctuation (0 ∷ 32 ∷ 48 ∷ 57 ∷ 65 ∷ 90 ∷ 97 ∷ 122 ∷ 127 ∷ 128 ∷ 255 ∷ []) ≡ replicate 11 false
+beside-punctuation = refl
+
+abbrev equal : Found → Found → Bool
+equal (At a) (At b) = eqb a b
+equal (At a) Nothing = false
+equal Nothing (At b) = false
+equal Nothing Nothing = true
 
 -- a text and where its `]` stands, with `[` barred
 pub record Sample : Type 0 where
@@ -39,7 +48,7 @@ samples =
 
 abbrev hold : List Sample → Bool
 hold [] = true
-hold (s ∷ more) = same (closing 93 91 93 (ascii (s .text)) 0) (s .answer) && hold more
+hold (s ∷ more) = equal (closing 93 91 93 (ascii (s .text)) 0) (s .answer) && hold more
 
 pub samples-hold : hold samples ≡ true
 unfolding scan closingStep closing

@@ -4,8 +4,9 @@ use Prim.Native.Nat.{ℕ, suc, _<_}
 use native.Mathlib.Omega.{arith}
 use mathlib.Core.Path.{_≡_, refl, ap}
 use mathlib.Core.Logic.{_⊎_, inl, inr, ⊎-elim}
-use mathlib.Core.List.{List, [], _∷_, _++_, List·Memᴰ·head, Memᴰ·append-right}
+use mathlib.Core.List.{List, [], _∷_, _++_}
 use lib.ListN.{length, length-append}
+use Rattle.scan.proofs.Member.{in-here, in-back}
 use Rattle.text.specs.Utf8.{Character, Run, none, more, WellFormed}
 use Rattle.text.proofs.Character.{alone, later-byte}
 
@@ -26,7 +27,7 @@ parted (x ∷ c) s (y ∷ l) b r e =
 -- ---- an ASCII byte within a character is the whole of it
 whole-character : (l : List ℕ) (b : ℕ) (d : List ℕ) → Character (l ++ b ∷ d) → b < 128 → (l ≡ []) × (d ≡ [])
 whole-character [] b d w h = (refl, alone b d w h)
-whole-character (x ∷ l) b d w h = let no : ⊥ = omega (arith, later-byte w (Memᴰ·append-right l (List·Memᴰ·head refl))) in absurd no
+whole-character (x ∷ l) b d w h = let no : ⊥ = omega (arith, later-byte w (in-back l (b ∷ d) b (in-here d refl))) in absurd no
 
 -- ---- the theorem
 pub around-ascii : {s : List ℕ} {n : ℕ} → Run Character s n → (l : List ℕ) (b : ℕ) (r : List ℕ) → s ≡ l ++ b ∷ r → b < 128 → WellFormed l × WellFormed r

@@ -11,23 +11,23 @@ use lib.ListN.{length, getD, take, drop, drop-of-length-le}
 use lib.Seq.{take-nil, getD-drop, drop-drop}
 use Rattle.scan.proofs.Test.{by, and-left, and-right}
 use Rattle.scan.proofs.Scan.{at-cons}
-use Rattle.text.specs.Utf8.{Range, _‥_, table}
+use Rattle.text.specs.Utf8.{ByteRange, _‥_, table}
 use Rattle.text.specs.Sequences.{onesFrom, leadingOnes, sequenceLength}
-use Rattle.text.specs.Reading.{holds, opens, rowFor, starts, characterLength, lead, least, most, second, continuation}
+use Rattle.text.specs.Reading.{covers, leads, rowFor, starts, characterLength, lead, least, most, second, continuation}
 use Rattle.text.proofs.Below.{at}
 use Rattle.text.proofs.Rows.{row-here, starts-cons, starts-found}
 
 -- ---- equal rows, as a test
-abbrev same : List Range → List Range → Bool
+abbrev same : List ByteRange → List ByteRange → Bool
 same [] [] = true
 same [] (q ∷ l) = false
 same (r ∷ k) [] = false
 same (r ∷ k) (q ∷ l) = eqb (r .low) (q .low) && (eqb (r .high) (q .high) && same k l)
 
-same-range : (r q : Range) → r .low ≡ q .low → r .high ≡ q .high → r ≡ q
+same-range : (r q : ByteRange) → r .low ≡ q .low → r .high ≡ q .high → r ≡ q
 same-range r q e f = λ i. record { low = e i; high = f i }
 
-same-eq : (k l : List Range) → same k l ≡ true → k ≡ l
+same-eq : (k l : List ByteRange) → same k l ≡ true → k ≡ l
 same-eq [] [] e = refl
 same-eq [] (q ∷ l) e = absurd (false≢true e)
 same-eq (r ∷ k) [] e = absurd (false≢true e)
@@ -39,10 +39,10 @@ same-eq (r ∷ k) (q ∷ l) e =
     ap₂ _∷_ g (same-eq k l (and-right high (same k l) f))
 
 -- ---- the bytes after a first byte of a longer character, by leading ones
-abbrev continuations : List Range
+abbrev continuations : List ByteRange
 continuations = 0x80 ‥ 0xBF ∷ 0x80 ‥ 0xBF ∷ []
 
-abbrev following : ℕ → List Range
+abbrev following : ℕ → List ByteRange
 following b = cond (lead b) (least b ‥ most b ∷ take (sequenceLength b - 2) continuations) []
 
 agree : ℕ → Bool
@@ -64,8 +64,8 @@ table-following b s l h =
     rw (starts-found table b s, n, f)
 
 -- ---- `following` held against a text, byte by byte
-starts-take : (n j : ℕ) (r : Range) (row : List Range) (s : List ℕ) → leb (r .low) 0 ≡ false
-    → starts (take (n - j) (r ∷ row)) s ≡ ((ltb n (suc j) || holds r (getD s 0 0)) && starts (take (n - suc j) row) (drop 1 s))
+starts-take : (n j : ℕ) (r : ByteRange) (row : List ByteRange) (s : List ℕ) → leb (r .low) 0 ≡ false
+    → starts (take (n - j) (r ∷ row)) s ≡ ((ltb n (suc j) || covers r (getD s 0 0)) && starts (take (n - suc j) row) (drop 1 s))
 unfolding starts
 starts-take n j r row s z =
     by (ltb n (suc j))
@@ -93,7 +93,7 @@ starts-following : (b : ℕ) (s : List ℕ) → let n = sequenceLength b in
     ≡ (second b (getD s 0 0) && ((ltb n 3 || continuation (getD (drop 1 s) 0 0)) && (ltb n 4 || continuation (getD (drop 1 (drop 1 s)) 0 0))))
 unfolding starts
 starts-following b s =
-    rw (starts-cons (least b ‥ most b) (take (sequenceLength b - 2) continuations) s (least-low b), starts-take (sequenceLength b) 2 (0x80 ‥ 0xBF) (0x80 ‥ 0xBF ∷ []) (drop 1 s) refl, starts-take (sequenceLength b) 3 (0x80 ‥ 0xBF) [] (drop 1 (drop 1 s)) refl, take-nil {A = Range} (sequenceLength b - 4), and-true)
+    rw (starts-cons (least b ‥ most b) (take (sequenceLength b - 2) continuations) s (least-low b), starts-take (sequenceLength b) 2 (0x80 ‥ 0xBF) (0x80 ‥ 0xBF ∷ []) (drop 1 s) refl, starts-take (sequenceLength b) 3 (0x80 ‥ 0xBF) [] (drop 1 (drop 1 s)) refl, take-nil {A = ByteRange} (sequenceLength b - 4), and-true)
 
 -- the table's answer by leading ones
 pub by-ones : (b : ℕ) (s : List ℕ) → 128 ≤ b → b < 256 → let n = sequenceLength b in
@@ -108,7 +108,7 @@ pub ascii : (b : ℕ) (s : List ℕ) → b < 128 → characterLength (b ∷ s) �
 unfolding characterLength rowFor table starts
 ascii b s h =
     let k : b ≤ 127 = omega arith in
-    let o : opens (0x00 ‥ 0x7F ∷ []) b ≡ true = simp (le-leb 0 b zero-le, le-leb b 127 k) in
+    let o : leads (0x00 ‥ 0x7F ∷ []) b ≡ true = simp (le-leb 0 b zero-le, le-leb b 127 k) in
     rw (row-here (0x00 ‥ 0x7F ∷ []) _ b o, o)
 
 module _ (s : List ℕ) (i : ℕ) where

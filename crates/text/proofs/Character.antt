@@ -4,33 +4,35 @@ use native.Mathlib.Omega.{arith}
 use mathlib.Core.Path.{_≡_, refl, sym, ap, _∙_}
 use mathlib.Core.Logic.{_↔_, ⊎-elim}
 use mathlib.Core.Bool.{Bool, true, false, false≢true}
-use mathlib.Core.List.{List, [], _∷_, _++_, List·Memᴰ, List·Memᴰ·cases-cons, List·Memᴰ·not-nil}
+use mathlib.Core.List.{List, [], _∷_, _++_}
 use borrow.Author.Tests.{le-leb, leb-true, eqb-true}
 use lib.Dec.{eqb, leb}
 use lib.ListN.{length, getD, take, drop, take-append-drop}
 use lib.Seq.{length-take-le}
+use Rattle.scan.specs.Member.{In}
 use Rattle.scan.proofs.Test.{by, and-left, and-right}
-use Rattle.text.specs.Utf8.{Range, table, Fits, Character, GoodCharacter, Begins}
-use Rattle.text.specs.Reading.{opens, rowFor, starts, characterLength, goodLength, barred}
+use Rattle.scan.proofs.Member.{in-nil, in-cons}
+use Rattle.text.specs.Utf8.{ByteRange, table, Fits, Character, GoodCharacter, Begins}
+use Rattle.text.specs.Reading.{leads, rowFor, starts, characterLength, goodLength, barred}
 use Rattle.text.proofs.Below.{every, every-at}
 use Rattle.text.proofs.Rows.{starts-length}
 use Rattle.text.proofs.ByOnes.{ascii}
 use Rattle.text.proofs.Table.{table-rises, found, nonempty, listed, fits-length, fits-starts, starts-fits}
 
 -- ---- a character by the table
-by-row : (row : List Range) (c rest : List ℕ) → List·Memᴰ row table → Fits row c → characterLength (c ++ rest) ≡ length c
+by-row : (row : List ByteRange) (c rest : List ℕ) → In row table → Fits row c → characterLength (c ++ rest) ≡ length c
 unfolding characterLength
 by-row [] [] rest m f = absurd (nonempty table table-rises m)
 by-row [] (b ∷ c) rest m f = absurd f
 by-row (r ∷ row) [] rest m f = absurd f
 by-row (r ∷ row) (b ∷ c) rest m f =
-    let o : opens (r ∷ row) b ≡ true = rw (le-leb _ _ (f .0), le-leb _ _ (f .1)) in
+    let o : leads (r ∷ row) b ≡ true = rw (le-leb _ _ (f .0), le-leb _ _ (f .1)) in
     rw (found table table-rises m b o, fits-starts (r ∷ row) (b ∷ c) rest f) (fits-length (r ∷ row) (b ∷ c) f)
 
 pub character-complete : {s : List ℕ} {n : ℕ} → Begins Character s n → characterLength s ≡ n
 character-complete w = rw (w .whole) (by-row (w .class .row) (w .one) (w .rest) (w .class .listed) (w .class .fits) ∙ w .size)
 
-begins-row : (row : List Range) (s : List ℕ) (n : ℕ) → List·Memᴰ row table → starts row s ≡ true → length row ≡ n → Begins Character s n
+begins-row : (row : List ByteRange) (s : List ℕ) (n : ℕ) → In row table → starts row s ≡ true → length row ≡ n → Begins Character s n
 begins-row row s n m w e =
     let h : n ≤ length s = rw e at (starts-length row s w) in
     record {
@@ -56,35 +58,35 @@ pub character-unique : {s : List ℕ} {n m : ℕ} → Begins Character s n → B
 character-unique v w = sym (character-complete v) ∙ character-complete w
 
 -- ---- the bytes after the first are not ASCII: one test over the table
-high : Range → Bool
+high : ByteRange → Bool
 high r = leb 128 (r .low)
 
-later-high : List Range → Bool
+later-high : List ByteRange → Bool
 later-high row = every high (drop 1 row)
 
 table-high : every later-high table ≡ true
 unfolding table later-high high
 table-high = refl
 
-high-byte : (row : List Range) (c : List ℕ) → every high row ≡ true → Fits row c → {b : ℕ} → List·Memᴰ b c → 128 ≤ b
+high-byte : (row : List ByteRange) (c : List ℕ) → every high row ≡ true → Fits row c → {b : ℕ} → In b c → 128 ≤ b
 unfolding high
-high-byte [] [] e f m = absurd (List·Memᴰ·not-nil m)
+high-byte [] [] e f m = absurd (in-nil m)
 high-byte [] (x ∷ c) e f m = absurd f
 high-byte (r ∷ row) [] e f m = absurd f
 high-byte (r ∷ row) (x ∷ c) e f {b} m =
     ⊎-elim (λ q. let l : 128 ≤ r .low = leb-true 128 (r .low) (and-left (high r) (every high row) e) in let g = f .0 in omega arith)
-    (λ k. high-byte row c (and-right (high r) (every high row) e) (f .2) k) (List·Memᴰ·cases-cons m)
+    (λ k. high-byte row c (and-right (high r) (every high row) e) (f .2) k) (in-cons c m)
 
-later-by : (row : List Range) (x : ℕ) (c : List ℕ) → later-high row ≡ true → Fits row (x ∷ c) → {b : ℕ} → List·Memᴰ b c → 128 ≤ b
+later-by : (row : List ByteRange) (x : ℕ) (c : List ℕ) → later-high row ≡ true → Fits row (x ∷ c) → {b : ℕ} → In b c → 128 ≤ b
 unfolding later-high
 later-by [] x c e f m = absurd f
 later-by (r ∷ row) x c e f m = high-byte row c e (f .2) m
 
-pub later-byte : {x : ℕ} {c : List ℕ} → Character (x ∷ c) → {b : ℕ} → List·Memᴰ b c → 128 ≤ b
+pub later-byte : {x : ℕ} {c : List ℕ} → Character (x ∷ c) → {b : ℕ} → In b c → 128 ≤ b
 later-byte {x} {c} w m = later-by (w .row) x c (every-at later-high table table-high (w .listed)) (w .fits) m
 
 -- ---- a good character
-size-by : (row : List Range) (c : List ℕ) → List·Memᴰ row table → Fits row c → 0 < length c
+size-by : (row : List ByteRange) (c : List ℕ) → In row table → Fits row c → 0 < length c
 size-by [] [] m f = absurd (nonempty table table-rises m)
 size-by (r ∷ row) [] m f = absurd f
 size-by [] (b ∷ c) m f = absurd f

@@ -8,15 +8,15 @@ use mathlib.Core.List.{List, [], _∷_, _++_}
 use borrow.Author.Tests.{eqb-true}
 use lib.Dec.{eqb}
 use Rattle.scan.proofs.Test.{and-left, and-right}
-use Rattle.text.specs.Utf8.{Range, table, Fits, Character, Run, none, more}
+use Rattle.text.specs.Utf8.{ByteRange, table, Fits, Character, Run, none, more}
 use Rattle.text.specs.Sequences.{onesFrom, leadingOnes, sequenceLength, starting, characters}
 use Rattle.text.proofs.Below.{all, at, every, every-at}
 
 -- ---- one test over the ranges of the table: each byte of a first range starts a sequence, and no byte of a later range does
-counts : ℕ → Range → Bool
+counts : ℕ → ByteRange → Bool
 counts n r = all (λ k. eqb (starting (r .low + k)) n) (suc (r .high) - r .low)
 
-once : List Range → Bool
+once : List ByteRange → Bool
 once [] = false
 once (r ∷ row) = counts 1 r && every (counts 0) row
 
@@ -25,13 +25,13 @@ unfolding table once counts sequenceLength leadingOnes onesFrom
 table-once = refl
 
 -- ---- what it says of a character
-counted : (n : ℕ) (r : Range) → counts n r ≡ true → (b : ℕ) → r .low ≤ b → b ≤ r .high → starting b ≡ n
+counted : (n : ℕ) (r : ByteRange) → counts n r ≡ true → (b : ℕ) → r .low ≤ b → b ≤ r .high → starting b ≡ n
 unfolding counts
 counted n r e b l h =
     let p : r .low + (b - r .low) ≡ b = omega arith in
     rw (← p) (eqb-true (starting (r .low + (b - r .low))) n (at (λ k. eqb (starting (r .low + k)) n) (suc (r .high) - r .low) e (b - r .low) (omega arith)))
 
-later : (row : List Range) (c : List ℕ) → every (counts 0) row ≡ true → Fits row c → characters c ≡ 0
+later : (row : List ByteRange) (c : List ℕ) → every (counts 0) row ≡ true → Fits row c → characters c ≡ 0
 unfolding characters
 later [] [] e f = refl
 later [] (b ∷ c) e f = absurd f
@@ -39,7 +39,7 @@ later (r ∷ row) [] e f = absurd f
 later (r ∷ row) (b ∷ c) e f =
     rw (counted 0 r (and-left (counts 0 r) (every (counts 0) row) e) b (f .0) (f .1), later row c (and-right (counts 0 r) (every (counts 0) row) e) (f .2))
 
-one : (row : List Range) (c : List ℕ) → once row ≡ true → Fits row c → characters c ≡ 1
+one : (row : List ByteRange) (c : List ℕ) → once row ≡ true → Fits row c → characters c ≡ 1
 unfolding once characters
 one [] c e f = absurd (false≢true e)
 one (r ∷ row) [] e f = absurd f

@@ -9,4 +9,5 @@ pub mod FirstBad
 pub mod Counting
 pub mod Clean
 pub mod Refusals
+pub mod Claims
 pub mod Boundary

@@ -11,7 +11,7 @@ use Rattle.scan.proofs.Test.{by}
 use Rattle.scan.specs.declared.Found.{Found}
 use Rattle.scan.specs.declared.Found.the-variants.{At, Nothing}
 use Rattle.text.specs.declared.Checked.the-variants.{Good, Long, Bad}
-use Rattle.text.specs.Utf8.{noteLimit, Clean, GoodText, FirstBad}
+use Rattle.text.specs.Utf8.{noteLimit, Clean, GoodText, FirstBad, GoodNote}
 use Rattle.text.specs.Reading.{firstBad, checkedBy, checkOf}
 use Rattle.text.proofs.Steps.{checks}
 use Rattle.text.proofs.FirstBad.{good-or-bad, first-bad-at, first-bad-nothing}
@@ -71,4 +71,10 @@ module _ (s : List ℕ) where
   refused-2 = (
     λ v. let w = check-bad (v .0) .0 (v .1) in (w .0, λ g. not-both s (good-text s .1 g) (w .1)),
     λ w. ⊎-elim (λ g. absurd (w .1 (good-text s .0 g))) (λ v. (v .0, check-bad (v .0) .1 (w .0, v .1))) (good-or-bad s),
+  )
+
+  pub good-note : (checkOf s ≡ Good) ↔ GoodNote s
+  good-note = (
+    λ e. let w = check-good .0 e in record { short = w .0; clean = good-text s .0 (w .1) },
+    λ g. check-good .1 (g .short, good-text s .1 (g .clean)),
   )

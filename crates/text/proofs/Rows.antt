@@ -6,46 +6,46 @@ use mathlib.Core.List.{List, [], _∷_}
 use lib.Dec.{leb}
 use lib.ListN.{length, getD, drop}
 use Rattle.scan.proofs.Test.{by, and-right}
-use Rattle.text.specs.Utf8.{Range, table}
-use Rattle.text.specs.Reading.{holds, opens, rowFor, starts, lengthBy, characterLength, goodLength, barred}
+use Rattle.text.specs.Utf8.{ByteRange, table}
+use Rattle.text.specs.Reading.{covers, leads, rowFor, starts, lengthBy, characterLength, goodLength, barred}
 
 -- ---- the row of a first byte
-module _ (row : List Range) (rows : List (List Range)) (b : ℕ) where
-  pub row-here : opens row b ≡ true → rowFor (row ∷ rows) b ≡ row
+module _ (row : List ByteRange) (rows : List (List ByteRange)) (b : ℕ) where
+  pub row-here : leads row b ≡ true → rowFor (row ∷ rows) b ≡ row
   unfolding rowFor
   row-here e = rw (e, rowFor)
 
-  pub row-later : opens row b ≡ false → rowFor (row ∷ rows) b ≡ rowFor rows b
+  pub row-later : leads row b ≡ false → rowFor (row ∷ rows) b ≡ rowFor rows b
   unfolding rowFor
   row-later e = rw (e, rowFor)
 
 -- ---- a text against a row
-pub starts-length : (row : List Range) (s : List ℕ) → starts row s ≡ true → length row ≤ length s
+pub starts-length : (row : List ByteRange) (s : List ℕ) → starts row s ≡ true → length row ≤ length s
 unfolding starts
 starts-length [] s e = zero-le
 starts-length (r ∷ row) [] e = absurd (false≢true e)
-starts-length (r ∷ row) (b ∷ s) e = suc-le-suc (starts-length row s (and-right (holds r b) (starts row s) e))
+starts-length (r ∷ row) (b ∷ s) e = suc-le-suc (starts-length row s (and-right (covers r b) (starts row s) e))
 
 -- past the end `getD` gives 0, which lies in no range that starts higher
-pub starts-cons : (r : Range) (row : List Range) (s : List ℕ) → leb (r .low) 0 ≡ false → starts (r ∷ row) s ≡ (holds r (getD s 0 0) && starts row (drop 1 s))
+pub starts-cons : (r : ByteRange) (row : List ByteRange) (s : List ℕ) → leb (r .low) 0 ≡ false → starts (r ∷ row) s ≡ (covers r (getD s 0 0) && starts row (drop 1 s))
 unfolding starts
 starts-cons r row [] e = simp e
 starts-cons r row (b ∷ s) e = refl
 
-starts-opened : (row : List Range) (b : ℕ) (s : List ℕ) → opens row b ≡ true → starts row (b ∷ s) ≡ starts (drop 1 row) s
+starts-opened : (row : List ByteRange) (b : ℕ) (s : List ℕ) → leads row b ≡ true → starts row (b ∷ s) ≡ starts (drop 1 row) s
 unfolding starts
 starts-opened [] b s e = refl
 starts-opened (r ∷ row) b s e = simp e
 
 -- a row that was found by the first byte is held against the bytes after it
-pub starts-found : (rows : List (List Range)) (b : ℕ) (s : List ℕ) → starts (rowFor rows b) (b ∷ s) ≡ starts (drop 1 (rowFor rows b)) s
+pub starts-found : (rows : List (List ByteRange)) (b : ℕ) (s : List ℕ) → starts (rowFor rows b) (b ∷ s) ≡ starts (drop 1 (rowFor rows b)) s
 unfolding starts rowFor
 starts-found [] b s = refl
 starts-found (row ∷ rows) b s =
-    by (opens row b) (λ e. rw (row-here row rows b e) (starts-opened row b s e)) (λ e. rw (row-later row rows b e) (starts-found rows b s))
+    by (leads row b) (λ e. rw (row-here row rows b e) (starts-opened row b s e)) (λ e. rw (row-later row rows b e) (starts-found rows b s))
 
 -- ---- no character is longer than what is left
-by-within : (row : List Range) (s : List ℕ) → lengthBy row s ≤ length s
+by-within : (row : List ByteRange) (s : List ℕ) → lengthBy row s ≤ length s
 by-within row s = by (starts row s) (λ e. rw e (starts-length row s e)) (λ e. rw e zero-le)
 
 pub character-within : (s : List ℕ) → characterLength s ≤ length s

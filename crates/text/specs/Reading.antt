@@ -10,31 +10,31 @@ use Rattle.scan.specs.declared.Found.{Found}
 use Rattle.scan.specs.declared.Found.the-variants.{At, Nothing}
 use Rattle.text.specs.declared.Checked.{Checked}
 use Rattle.text.specs.declared.Checked.the-variants.{Good, Long, Bad}
-use Rattle.text.specs.Utf8.{Range, table, noteLimit}
+use Rattle.text.specs.Utf8.{ByteRange, table, noteLimit}
 
 -- ---- the character at the front
 
 -- the byte b lies within the range
-abbrev pub holds : Range → ℕ → Bool
-holds r b = within (r .low) (r .high) b
+abbrev pub covers : ByteRange → ℕ → Bool
+covers r b = within (r .low) (r .high) b
 
 -- the row can start with b
-abbrev pub opens : List Range → ℕ → Bool
-opens [] b = false
-opens (r ∷ row) b = holds r b
+abbrev pub leads : List ByteRange → ℕ → Bool
+leads [] b = false
+leads (r ∷ row) b = covers r b
 
 -- the first of the rows that can start with b; no range at all where none can
-unfoldable pub rowFor : List (List Range) → ℕ → List Range
+unfoldable pub rowFor : List (List ByteRange) → ℕ → List ByteRange
 rowFor [] b = []
-rowFor (row ∷ rows) b = elim (opens row b) [ true ↦ row | false ↦ rowFor rows b ]
+rowFor (row ∷ rows) b = elim (leads row b) [ true ↦ row | false ↦ rowFor rows b ]
 
 -- s starts with one byte for each range of the row
-unfoldable pub starts : List Range → List ℕ → Bool
+unfoldable pub starts : List ByteRange → List ℕ → Bool
 starts [] s = true
 starts (r ∷ row) [] = false
-starts (r ∷ row) (b ∷ s) = holds r b && starts row s
+starts (r ∷ row) (b ∷ s) = covers r b && starts row s
 
-abbrev pub lengthBy : List Range → List ℕ → ℕ
+abbrev pub lengthBy : List ByteRange → List ℕ → ℕ
 lengthBy row s = cond (starts row s) (length row) 0
 
 -- the length of the character that s starts with, 0 where none does

@@ -1,20 +1,21 @@
 -- Well-formed UTF-8, good text, and where reading a text first meets no good character.
 use Prim.Native.Nat.{ℕ, suc, _≤_, _<_}
 use mathlib.Core.Path.{_≡_}
-use mathlib.Core.List.{List, [], _∷_, _++_, List·Memᴰ}
+use mathlib.Core.List.{List, [], _∷_, _++_}
 use lib.ListN.{length}
+use Rattle.scan.specs.Member.{In}
 
 -- the bytes from low to high, both among them
-pub record Range : Type 0 where
+pub record ByteRange : Type 0 where
   pub low : ℕ
   pub high : ℕ
 
 infix 70 _‥_
-abbrev pub _‥_ : ℕ → ℕ → Range
+abbrev pub _‥_ : ℕ → ℕ → ByteRange
 low ‥ high = record { low = low; high = high }
 
 -- "UTF-8 is that of the Unicode standard, table 3-7": Well-Formed UTF-8 Byte Sequences, row by row
-unfoldable pub table : List (List Range)
+unfoldable pub table : List (List ByteRange)
 table =
     -- U+0000..U+007F
     (0x00 ‥ 0x7F ∷ [])
@@ -37,7 +38,7 @@ table =
     ∷ []
 
 -- the bytes of c lie one by one within the row's ranges, and there are equally many
-abbrev pub Fits : List Range → List ℕ → Type 0
+abbrev pub Fits : List ByteRange → List ℕ → Type 0
 Fits [] [] = Unit {0}
 Fits [] (b ∷ c) = ⊥
 Fits (r ∷ row) [] = ⊥
@@ -45,8 +46,8 @@ Fits (r ∷ row) (b ∷ c) = (r .low ≤ b) × (b ≤ r .high) × Fits row c
 
 -- c is one character: it fits a row of the table
 pub record Character (c : List ℕ) : Type 0 where
-  pub row : List Range
-  pub listed : List·Memᴰ row table
+  pub row : List ByteRange
+  pub listed : In row table
   pub fits : Fits row c
 
 -- a character other than "byte 0 or 13"
@@ -68,8 +69,8 @@ pub record WellFormed (s : List ℕ) : Type 0 where
 -- the opposite of "byte 0 or 13, or ill-formed UTF-8"
 pub record Clean (s : List ℕ) : Type 0 where
   pub well-formed : WellFormed s
-  pub no-0 : List·Memᴰ 0 s → ⊥
-  pub no-13 : List·Memᴰ 13 s → ⊥
+  pub no-0 : In 0 s → ⊥
+  pub no-13 : In 13 s → ⊥
 
 -- the same, character by character
 pub record GoodText (s : List ℕ) : Type 0 where

@@ -2,7 +2,8 @@
 ghost use mathlib.Core.Path.{_≡_};
 ghost use lib.ListN.{drop};
 ghost use Rattle.text.specs.Sequences.{leadingOnes, sequenceLength};
-ghost use Rattle.text.specs.Reading.{characterLength, goodLength, pastAscii, firstBad, checkOf, lead, least, most, second, continuation};
+ghost use Rattle.text.specs.Reading.{characterLength, goodLength, pastAscii, firstBad, lead, least, most, second, continuation};
+ghost use Rattle.text.specs.Promise.{Promise};
 use scan::Found;
 
 // The most bytes that a note may have.
@@ -139,7 +140,7 @@ pub fn first_bad(s: &[u8]) -> Found
 
 // A note's length and bytes.
 pub fn check(note: &[u8]) -> Checked
-    ensures { λ r. ⌜ r ≡ checkOf (now (note .entry)) ⌝ }
+    ensures { λ r. ⌜ Promise (now (note .entry)) r ⌝ }
 {
     if NOTE_LIMIT < note.len() {
         return Checked::Long(note.len());

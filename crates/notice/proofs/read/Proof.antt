@@ -52,7 +52,7 @@ read-spans-requires c κs =
     let counted = compared .before .before .before .before .before in
     let checked = counted .before .before .before .before in
     let start = checked .before .before .before .before in
-    defined _ (start .args .definitions .now) (start .args .spans .now) (checked .check .ensures) (counted .before .before .enum-told .given .1)
+    defined _ (start .args .definitions .now) (start .args .spans .now) (checked .check .ensures .answer) (counted .before .before .enum-told .given .1)
     (counted .fill-definitions .ensures .1) (counted .fill-definitions .ensures .0) (compared .before .whole-rows .ensures) (compared .if1 .left)
     (stored .fill-definitions2 .ensures .1)
 
