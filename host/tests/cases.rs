@@ -1,17 +1,88 @@
-//! The output that the gate holds the program `samples` to is the second reader's.
+//! The cases that the gate runs the program `samples` on, and what they tell apart.
 
 use std::path::Path;
-use std::process::Command;
+
+use host::cases::{all, container, enquiry, expected, tables_and_page, Case};
+use host::second::{Reader, Wrong};
+
+/// A file of the program.
+fn stored(name: &str) -> Vec<u8> {
+    let folder = Path::new(env!("CARGO_MANIFEST_DIR")).join("../crates/samples");
+    std::fs::read(folder.join(name)).expect("the file is there")
+}
+
+#[test]
+fn stored_input_is_the_container_of_the_cases() {
+    let cases = all();
+    assert!(cases.len() > 1_000, "{} cases", cases.len());
+    assert!(
+        container(&cases) == stored("stdin"),
+        "the container differs"
+    );
+}
 
 #[test]
 fn stored_output_is_the_second_readers() {
-    let samples = Path::new(env!("CARGO_MANIFEST_DIR")).join("../crates/samples");
-    let output = Command::new(env!("CARGO_BIN_EXE_cases"))
-        .arg(samples.join("stdin"))
-        .output()
-        .expect("cases runs");
-    assert!(output.status.success());
-    let stored = std::fs::read(samples.join("stdout")).expect("the stored output is there");
-    assert!(stored.len() > 100_000, "the stored output holds every case");
-    assert!(output.stdout == stored, "the stored output differs");
+    let output = stored("stdout");
+    let mut rest = output.as_slice();
+    for (index, case) in all().iter().enumerate() {
+        let wanted = expected(Reader::RIGHT, index + 1, case);
+        let after = rest.strip_prefix(wanted.as_slice());
+        rest = after.unwrap_or_else(|| panic!("case {}, {}", index + 1, case.name));
+    }
+    assert!(rest.is_empty(), "the stored output has more");
+}
+
+/// What the second reader expects of a case, in two parts; the whole is what is stored.
+struct Stored<'a> {
+    index: usize,
+    case: &'a Case,
+    tables_and_page: Vec<u8>,
+    enquiry: Vec<u8>,
+}
+
+impl<'a> Stored<'a> {
+    fn of((index, case): (usize, &'a Case)) -> Stored<'a> {
+        Stored {
+            index: index + 1,
+            case,
+            tables_and_page: tables_and_page(Reader::RIGHT, case),
+            enquiry: enquiry(Reader::RIGHT, case),
+        }
+    }
+
+    /// Whether a wrong reading expects something else. What is the enquiry's alone has to show in
+    /// the enquiry, everything else in the tables or the page.
+    fn tells(&self, wrong: Wrong) -> bool {
+        let reader = Reader::misreading(wrong);
+        if wrong.is_of_enquiry() {
+            enquiry(reader, self.case) != self.enquiry
+        } else {
+            tables_and_page(reader, self.case) != self.tables_and_page
+        }
+    }
+
+    fn is_by_chance(&self) -> bool {
+        self.case.name == "by chance"
+    }
+}
+
+/// Each wrong reading expects something else than what is stored, of one case at least that is no
+/// case by chance.
+#[test]
+fn every_wrong_reading_is_told_apart() {
+    let cases = all();
+    let mut stored: Vec<Stored> = cases.iter().enumerate().map(Stored::of).collect();
+    stored.retain(|stored| !stored.is_by_chance());
+    // Short notes first: they tell most readings apart, and are quick.
+    stored.sort_by_key(|stored| stored.case.note.len());
+    let mut missed = Vec::new();
+    for wrong in Wrong::all() {
+        match stored.iter().find(|stored| stored.tells(wrong)) {
+            Some(told) => println!("{wrong:?}: case {}, {}", told.index, told.case.name),
+            None => missed.push(wrong),
+        }
+    }
+    assert!(missed.is_empty(), "told apart by no case: {missed:?}");
+    assert!(Wrong::kinds() >= 100, "{} kinds", Wrong::kinds());
 }

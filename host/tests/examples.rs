@@ -1,50 +1,7 @@
 //! The examples of the sources against the second reader.
 
-use host::json::{self, Value};
 use host::second;
-
-const EXAMPLES: &str = include_str!("data/examples.json");
-
-/// One example: a note and the page it stands for.
-struct Example {
-    name: String,
-    status: String,
-    note: String,
-    page: String,
-}
-
-fn string(example: &Value, field: &str) -> String {
-    match example.get(field) {
-        Some(Value::String(string)) => string.clone(),
-        Some(Value::Number(number)) => number.to_string(),
-        other => panic!("field {field} is {other:?}"),
-    }
-}
-
-fn examples() -> Vec<Example> {
-    let file = json::parse(EXAMPLES).expect("the file of examples is JSON");
-    let list = file.as_array().expect("the file of examples is a list");
-    list.iter()
-        .map(|example| Example {
-            name: format!(
-                "{} {}",
-                string(example, "source"),
-                string(example, "number")
-            ),
-            status: string(example, "status"),
-            note: string(example, "markdown"),
-            page: with_last_line_feed(string(example, "html")),
-        })
-        .collect()
-}
-
-/// "Each paragraph: `<p>`, content, `</p>`, LF"; an example's html may lack the last LF.
-fn with_last_line_feed(mut html: String) -> String {
-    if !html.is_empty() && !html.ends_with('\n') {
-        html.push('\n');
-    }
-    html
-}
+use host::sources::examples;
 
 fn page(note: &str) -> String {
     let answer = second::render(note.as_bytes(), usize::MAX, usize::MAX, usize::MAX);
@@ -66,7 +23,7 @@ fn every_example_has_its_place() {
 fn pages_of_the_base_examples() {
     let mut run = 0;
     let mut failed = Vec::new();
-    for example in examples().iter().filter(|e| e.status == "base") {
+    for example in examples().iter().filter(|example| example.is_base()) {
         run += 1;
         let made = page(&example.note);
         if made != example.page {
@@ -85,7 +42,7 @@ fn pages_of_the_base_examples() {
 #[test]
 fn a_final_line_feed_changes_no_page() {
     let mut run = 0;
-    for example in examples().iter().filter(|e| e.status == "base") {
+    for example in examples().iter().filter(|example| example.is_base()) {
         run += 1;
         let note = format!("{}\n", example.note);
         assert_eq!(page(&note), example.page, "{}: {note:?}", example.name);

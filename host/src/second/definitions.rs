@@ -96,7 +96,16 @@ impl Reader {
     /// "From its first line, and from the block's bytes alone, definitions are taken while they can
     /// be". Answers where what is left over starts.
     fn take_definitions(self, note: &str, block: Part, found: &mut Vec<Definition>) -> usize {
-        let text = Text::of_part(self, note, block);
+        let read_to = if self.misreads(Wrong::DefinitionPastBlock) {
+            note.len()
+        } else {
+            block.end
+        };
+        let read = Part {
+            end: read_to,
+            ..block
+        };
+        let text = Text::of_part(self, note, read);
         let mut descent = Descent::from(&text, 0);
         while let Some((label, destination, title)) = descent.optionally(Descent::definition) {
             let compared_label = self.compared_form(label.of(note));
@@ -114,7 +123,7 @@ impl Reader {
                 break;
             }
         }
-        descent.place()
+        descent.place().min(block.end)
     }
 
     /// "bytes left over, if any, less a final LF, are a paragraph."

@@ -194,29 +194,33 @@ impl Marking<'_> {
     }
 
     /// "place of the first bracket too many": "Brackets open at a point: opening pieces before it
-    /// less those paired by then. Each paragraph starts afresh."
-    pub fn first_bracket_too_many(&self) -> Option<usize> {
+    /// less those paired by then. Each paragraph starts afresh", with none open before it.
+    pub fn first_bracket_too_many(&self, mut open: isize) -> Option<usize> {
         let reader = self.text.reader;
         let most = reader.limit(
             MOST_BRACKETS_OPEN,
             Wrong::OneBracketFewer,
             Wrong::OneBracketMore,
         );
-        let mut openings = 0;
-        let mut paired = 0;
+        let mut pairs = self.pairs.iter().peekable();
         for (index, piece) in self.pieces.iter().enumerate() {
-            openings += usize::from(piece.kind == PieceKind::Opening);
-            let closes = self.pairs.get(paired).map(|pair| pair.closing);
-            if closes == Some(index) && !self.misreads(Wrong::PairedStayOpen) {
-                paired += 1;
-            }
-            if piece.kind == PieceKind::Tail && self.misreads(Wrong::LinkClosesAll) {
-                openings = paired;
-            }
-            if openings - paired > most {
+            open += isize::from(piece.kind == PieceKind::Opening);
+            let closes = pairs.next_if(|pair| pair.closing == index).is_some();
+            open -= self.closed_by(*piece, closes, open);
+            if open > most as isize {
                 return Some(self.text.place(piece.from));
             }
         }
         None
+    }
+
+    /// How many of the brackets open a piece closes: one where it is the second of a pair.
+    fn closed_by(&self, piece: Piece, closes_pair: bool, open: isize) -> isize {
+        match piece.kind {
+            PieceKind::Closing if self.misreads(Wrong::PairedStayOpen) => 0,
+            PieceKind::Closing if self.misreads(Wrong::UnpairedCloses) => 1,
+            PieceKind::Tail if self.misreads(Wrong::LinkClosesAll) => open,
+            _ => isize::from(closes_pair),
+        }
     }
 }

@@ -165,7 +165,9 @@ impl Reader {
 
     /// Refusal 4.
     fn check_depth(self, markings: &[Marking]) -> Result<(), Refusal> {
-        let mut too_many = markings.iter().filter_map(Marking::first_bracket_too_many);
+        let mut too_many = (0..markings.len()).filter_map(|index| {
+            markings[index].first_bracket_too_many(self.open_before(&markings[..index]))
+        });
         let place = if self.misreads(Wrong::LastDeepParagraph) {
             too_many.last()
         } else {

@@ -81,7 +81,11 @@ impl Marking<'_> {
     /// The span rows of the paragraph: "Rows stand in increasing order of end."
     pub fn span_rows(&self) -> Vec<SpanRow> {
         let reader = self.text.reader;
-        let code_spans = self.pieces.iter().filter_map(|piece| self.code_row(*piece));
+        let has_row = |piece: &&Piece| {
+            !reader.misreads(Wrong::CodeInLinkLeftOut) || !self.stands_in_link(**piece)
+        };
+        let code_spans = self.pieces.iter().filter(has_row);
+        let code_spans = code_spans.filter_map(|piece| self.code_row(*piece));
         let links = self.links.iter().map(|link| self.link_row(link));
         let mut rows: Vec<SpanRow> = code_spans.chain(links).collect();
         if !reader.misreads(Wrong::RowsByKind) {
@@ -90,6 +94,15 @@ impl Marking<'_> {
         rows.into_iter()
             .map(|row| reader.misread_span_row(row, self.text))
             .collect()
+    }
+
+    /// Whether a piece stands between the two brackets of a link.
+    fn stands_in_link(&self, piece: Piece) -> bool {
+        self.links.iter().any(|link| {
+            let opening = self.pieces[link.pair.opening];
+            let closing = self.pieces[link.pair.closing];
+            opening.to <= piece.from && piece.to <= closing.from
+        })
     }
 
     /// "For a code span the text lies between the backtick strings".

@@ -56,6 +56,14 @@ impl Tails<'_> {
     /// end at most, first match only". The text of the pair lies between `text_from` and `text_to`,
     /// where the closing bracket stands.
     pub fn after(&self, text_from: usize, text_to: usize) -> Option<Tail> {
+        if self.misreads(Wrong::TailPastParagraph) {
+            let text = &self.text.to_note_end(self.note);
+            return Tails { text, ..*self }.first_match(text_from, text_to);
+        }
+        self.first_match(text_from, text_to)
+    }
+
+    fn first_match(&self, text_from: usize, text_to: usize) -> Option<Tail> {
         let mut after = Descent::from(self.text, text_to + 1);
         if self.misreads(Wrong::SpaceBeforeTail) {
             let _ = after.exactly(' ');
@@ -131,7 +139,13 @@ impl Tails<'_> {
     }
 
     fn look_up(&self, label: &str) -> Option<usize> {
-        self.text.reader.look_up(self.definitions, label)
+        let reader = self.text.reader;
+        let paragraph = self.text.place(0);
+        let is_seen = |definition: &Definition| {
+            definition.label.start < paragraph || !reader.misreads(Wrong::LaterDefinitionsUnseen)
+        };
+        let seen = self.definitions.partition_point(is_seen);
+        reader.look_up(&self.definitions[..seen], label)
     }
 
     /// The tail of a reference: "its destination and title are that definition's".

@@ -87,6 +87,15 @@ impl Text {
         }
     }
 
+    /// The text and what follows it in the note.
+    pub fn to_note_end(&self, note: &str) -> Text {
+        let part = Part {
+            start: self.place(0),
+            end: note.len(),
+        };
+        Text::of_part(self.reader, note, part)
+    }
+
     /// A text that stands by itself.
     pub fn of_string(reader: Reader, string: &str) -> Text {
         let whole = Part {

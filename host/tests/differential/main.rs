@@ -16,5 +16,4 @@ mod named;
 mod random;
 mod raw;
 mod shrink;
-mod sources;
 mod trial;

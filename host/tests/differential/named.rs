@@ -2,10 +2,11 @@
 //! with tables and pages of every size near the need.
 
 use crate::compare::{self, Lending};
-use crate::sources::{cases, example_notes};
 use crate::trial::Need;
+use host::cases;
 use host::generate::bench_notes;
 use host::second::{DEFINITION_ROW_WIDTH, LONGEST_NOTE, SPAN_ROW_WIDTH};
+use host::sources::{examples, Example};
 
 /// What was compared, or a failure with the note's first bytes.
 fn must<T>(note: &[u8], compared: Result<T, String>) -> T {
@@ -102,11 +103,12 @@ fn compare_at_every_size(note: &[u8]) -> [usize; 7] {
 
 #[test]
 fn base_examples_at_every_size() {
-    let notes = example_notes();
-    assert_eq!(notes.len(), 229);
+    let mut examples = examples();
+    examples.retain(Example::is_base);
+    assert_eq!(examples.len(), 229);
     let mut refusals = [0; 7];
-    for note in notes {
-        let came_up = compare_at_every_size(&note);
+    for example in examples {
+        let came_up = compare_at_every_size(example.note.as_bytes());
         for (sum, more) in refusals.iter_mut().zip(came_up) {
             *sum += more;
         }
@@ -118,15 +120,21 @@ fn base_examples_at_every_size() {
 
 #[test]
 fn cases_of_the_samples() {
-    let cases = cases();
-    assert!(cases.len() > 700, "{} cases", cases.len());
-    for (lending, note) in cases {
+    let cases = cases::all();
+    assert!(cases.len() > 1_000, "{} cases", cases.len());
+    for case in cases {
+        let note = case.note.as_slice();
         let need = Need::of(note);
         let mut all = lendings_one_by_one(need.exactly());
-        all.push(lending);
+        all.push(Lending {
+            definition_numbers: case.definition_numbers,
+            span_numbers: case.span_numbers,
+            page_bytes: case.page_bytes,
+        });
         // Hard notes take the second reader long.
         let most = if note.len() > 2_000 { 1 } else { all.len() };
         compare_with(note, &all[all.len() - most..]);
+        must(note, compare::resolve(note, &case.label));
         if note.len() <= 2_000 {
             compare_enquiries(note, &need);
         }

@@ -5,6 +5,7 @@ use std::borrow::Cow;
 use std::str::Utf8Error;
 
 use super::super::answers::{number, Lent, Refusal, RenderAnswer, ResolveAnswer};
+use super::super::marking::{Marking, Piece, PieceKind};
 use super::super::rows::{kind, DefinitionRow, SpanRow, DEFINITION_ROW_WIDTH, SPAN_ROW_WIDTH};
 use super::super::text::{is_space, Text};
 use super::{IllFormed, Reader, Written, Wrong};
@@ -215,6 +216,17 @@ impl Reader {
             Some(Wrong::BracketInCode) => has(']'),
             _ => false,
         }
+    }
+
+    /// No bracket is open at a paragraph's start; a wrong reading keeps those of earlier paragraphs.
+    pub(in super::super) fn open_before(self, earlier: &[Marking]) -> isize {
+        if !self.misreads(Wrong::OpenCarriedOver) {
+            return 0;
+        }
+        let opening = |piece: &&Piece| piece.kind == PieceKind::Opening;
+        let left =
+            |marking: &Marking| marking.pieces.iter().filter(opening).count() - marking.pairs.len();
+        earlier.iter().map(left).sum::<usize>() as isize
     }
 
     /// A definition row as it is.

@@ -147,6 +147,8 @@ switches! {
     /// What stands on the line after the destination is passed over.
     RestOfLineDropped,
     OneDefinitionABlock,
+    /// A definition is read on past its block.
+    DefinitionPastBlock,
     DefinitionAfterText,
     /// A definition with the label of an earlier one has no row.
     RepeatsLeftOut,
@@ -211,6 +213,10 @@ switches! {
     NoLinkNoPair,
     LinksNest,
     OuterLinkKept,
+    /// A tail is read on past its paragraph.
+    TailPastParagraph,
+    /// Only definitions that stand before the paragraph are seen.
+    LaterDefinitionsUnseen,
     DestinationNeeded,
     SpaceBeforeTail,
     ShortcutFirst,
@@ -228,12 +234,18 @@ switches! {
     OneBracketMore,
     LastDeepParagraph,
     PairedStayOpen,
+    /// A `]` that pairs with nothing makes room for one more.
+    UnpairedCloses,
+    /// What a paragraph leaves open stays open in the next.
+    OpenCarriedOver,
     LinkClosesAll,
 
     // Rows.
     RowsByStart,
     /// Code spans first, then links.
     RowsByKind,
+    /// A code span in a link's text has no row.
+    CodeInLinkLeftOut,
     EndsInclusive,
     PlacesInCharacters,
     PlacesFromParagraph,
@@ -297,6 +309,19 @@ impl Wrong {
         all.extend((b'@'..=b'[').map(Wrong::FoldOf));
         all.extend(forgiven_forms().map(Wrong::Forgives));
         all
+    }
+
+    /// Whether it concerns the enquiry alone.
+    pub fn is_of_enquiry(self) -> bool {
+        matches!(
+            self,
+            Wrong::LabelBeforeNote
+                | Wrong::NoLabelIsUndefined
+                | Wrong::LabelJudgedAlone
+                | Wrong::LabelWithBrackets
+                | Wrong::EmptyDestinationUndefined
+                | Wrong::ValueIsDefinition
+        )
     }
 
     /// How many switches there are, one with a parameter counted once.

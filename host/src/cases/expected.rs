@@ -1,0 +1,74 @@
+//! What the program `samples` has to print for a case: what the three entries answer and leave, by
+//! a reader of one's choice.
+
+use super::Case;
+use crate::second::{Reader, DEFINITION_ROW_WIDTH, SPAN_ROW_WIDTH};
+
+/// What each lent number holds before the call: no place, kind or definition number of a note.
+const GUARD: u32 = 99_999;
+/// What each byte of the page holds before the call: no byte of a note or a page.
+const PAGE_GUARD: u8 = 13;
+
+/// The lines for the case with this number, from 1.
+pub fn expected(reader: Reader, index: usize, case: &Case) -> Vec<u8> {
+    let name = format!("case {index}\n").into_bytes();
+    [name, tables_and_page(reader, case), enquiry(reader, case)].concat()
+}
+
+/// The lines of the reader and the page writer.
+pub fn tables_and_page(reader: Reader, case: &Case) -> Vec<u8> {
+    [reading(reader, case), rendering(reader, case)].concat()
+}
+
+/// The reader's answer, and both tables whole.
+fn reading(reader: Reader, case: &Case) -> Vec<u8> {
+    let answer = reader.read(&case.note, case.definition_numbers, case.span_numbers);
+    let line = format!(
+        "answer {} {} {} {}\n",
+        answer.number, answer.value, answer.definition_count, answer.span_count
+    );
+    let definitions = answer.definition_table(&vec![GUARD; case.definition_numbers]);
+    let spans = answer.span_table(&vec![GUARD; case.span_numbers]);
+    (line + &tables(&definitions, &spans)).into_bytes()
+}
+
+/// The page writer's answer, both tables and the page buffer whole.
+fn rendering(reader: Reader, case: &Case) -> Vec<u8> {
+    let answer = reader.render(
+        &case.note,
+        case.definition_numbers,
+        case.span_numbers,
+        case.page_bytes,
+    );
+    let line = format!(
+        "rendering {} {} {} {} {}\n",
+        answer.number, answer.value, answer.definition_count, answer.span_count, answer.page_length
+    );
+    let definitions = answer.definition_table(&vec![GUARD; case.definition_numbers]);
+    let spans = answer.span_table(&vec![GUARD; case.span_numbers]);
+    let page = answer.page_buffer(&vec![PAGE_GUARD; case.page_bytes]);
+    let tables = tables(&definitions, &spans);
+    [line.as_bytes(), tables.as_bytes(), &page, b"\n"].concat()
+}
+
+/// The enquiry's answer, and the part of the note that it hands back.
+pub fn enquiry(reader: Reader, case: &Case) -> Vec<u8> {
+    let answer = reader.resolve(&case.note, &case.label);
+    let line = format!("enquiry {} {}\n", answer.number, answer.value);
+    [line.as_bytes(), &case.note[answer.destination], b"\n"].concat()
+}
+
+/// Both tables whole.
+fn tables(definitions: &[u32], spans: &[u32]) -> String {
+    rows("definition", definitions, DEFINITION_ROW_WIDTH) + &rows("span", spans, SPAN_ROW_WIDTH)
+}
+
+/// Every number of the table, a row to a line; what is no whole row at the end is a line too.
+fn rows(name: &str, table: &[u32], width: usize) -> String {
+    let mut lines = String::new();
+    for row in table.chunks(width) {
+        let numbers: Vec<String> = row.iter().map(u32::to_string).collect();
+        lines += &format!("{name} {}\n", numbers.join(" "));
+    }
+    lines
+}

@@ -1,0 +1,157 @@
+//! Limits: the length of a note, of a label, and brackets open at once.
+
+use super::Case;
+use crate::second::LONGEST_NOTE;
+
+pub fn cases() -> Vec<Case> {
+    [
+        short_notes(),
+        long_notes(),
+        labels(),
+        brackets(),
+        closed_brackets(),
+    ]
+    .into_iter()
+    .flatten()
+    .collect()
+}
+
+fn short_notes() -> Vec<Case> {
+    vec![
+        Case::of("empty note, nothing lent", "").tables(0, 0),
+        Case::of("empty note, rows lent", "").tables(12, 20),
+        Case::of("no rows, nothing lent", "plain text\n").tables(0, 0),
+        Case::of("no rows, parts of a row lent", "plain text\n").tables(5, 9),
+        Case::of("a line end alone", "\n").tables(6, 10),
+        Case::of("blank lines alone", " \n\t\n \t \n\n").tables(6, 10),
+        Case::of("a definition alone", "[a]: b").tables(6, 0),
+        Case::of(
+            "definitions alone, in two blocks",
+            "[a]: b\n[c]: d\n\n[e]: f\n",
+        )
+        .tables(18, 0),
+    ]
+}
+
+fn long_notes() -> Vec<Case> {
+    let full = "a".repeat(LONGEST_NOTE);
+    let link_last = "a".repeat(LONGEST_NOTE - 6) + "[b](c)";
+    let definition_last = "a ".repeat(16_378) + "\n\n[b]: /cdef";
+    let definitions = "[a]:b\n".repeat(5_461) + "\n\n";
+    let bad_first = [b"\0", full.as_bytes()].concat();
+    // In characters this one would be within the limit.
+    let wide = "é".repeat(LONGEST_NOTE / 2) + "a";
+    vec![
+        Case::of("32,768 bytes", &full).tables(7, 11),
+        Case::of("32,768 bytes, a link at the end", link_last).tables(0, 10),
+        Case::of("32,768 bytes, a definition at the end", definition_last).tables(6, 0),
+        Case::of("32,769 bytes", full.clone() + "a").tables(7, 11),
+        Case::of("32,769 bytes, a bad byte first", bad_first).tables(7, 11),
+        Case::of("32,769 bytes of two to a character", wide).tables(7, 11),
+        Case::of("40,000 bytes", "a".repeat(40_000)).tables(0, 0),
+        Case::of(
+            "32,768 bytes of definitions: 5,461 rows needed",
+            definitions,
+        )
+        .tables(1_200, 10),
+    ]
+}
+
+fn labels() -> Vec<Case> {
+    let characters = [
+        ("one byte", "a"),
+        ("two bytes", "é"),
+        ("three bytes", "€"),
+        ("four bytes", "😀"),
+    ];
+    let mut cases = Vec::new();
+    for (bytes, character) in characters {
+        for count in [999, 1_000] {
+            let label = character.repeat(count);
+            let note = format!("[{label}]: /u\n\n[{label}] [{label}][] [t][{label}]");
+            let name = format!("label of {count} characters of {bytes}");
+            cases.push(Case::of(name, note));
+        }
+    }
+    for count in [999, 1_000] {
+        let spaces = " ".repeat(count - 2);
+        let letters = "a".repeat(count - 2);
+        let spaced = format!("[a{spaces}b]: /u\n\n[a b]");
+        let text = format!("[a b]: /u\n\n[a{spaces}b] [t][a{spaces}b]");
+        let escape = format!("[{letters}\\]]: /u\n\n[{letters}\\]]");
+        cases.extend([
+            Case::of(format!("label of {count} characters, with spaces"), spaced),
+            Case::of(format!("text of {count} characters, equal label"), text),
+            Case::of(
+                format!("label of {count} characters, an escape last"),
+                escape,
+            ),
+        ]);
+    }
+    cases
+}
+
+/// Cases of brackets that stay open.
+fn brackets() -> Vec<Case> {
+    let open = |count: usize| "[".repeat(count);
+    let second = format!("one [a](b)\n\n{}", open(65));
+    let both = format!("{}\n\n{}", open(64), open(64));
+    let two_deep = format!("a\n\n{}\n\nb\n\n{}", open(65), open(67));
+    [
+        ("64 opening brackets", open(64)),
+        ("65 opening brackets", open(65)),
+        ("66 opening brackets", open(66)),
+        ("65 opening brackets in the second paragraph", second),
+        ("64 opening brackets in each of two paragraphs", both),
+        ("two paragraphs too deep", two_deep),
+        ("70 escaped brackets", "\\[".repeat(70)),
+        ("70 brackets in a code span", format!("`{}`", open(70))),
+        ("70 brackets in a tail", format!("[a](<{}>)", open(70))),
+        (
+            "brackets that close nothing, then 65",
+            "]".repeat(9) + &open(65),
+        ),
+    ]
+    .map(|(name, note)| Case::of(name, note).tables(0, 20))
+    .into()
+}
+
+/// Cases of brackets that are paired by then.
+fn closed_brackets() -> Vec<Case> {
+    let open = |count: usize| "[".repeat(count);
+    let close = |count: usize| "]".repeat(count);
+    let links = "[a](b)".to_string() + &"](c)".repeat(63);
+    let mut cases: Vec<Case> = [
+        ("64 open, one closed, one opened", open(64) + "]["),
+        ("64 open, one closed, two opened", open(64) + "][["),
+        (
+            "64 open, all closed, 64 opened",
+            open(64) + &close(64) + &open(64),
+        ),
+        (
+            "64 pairs, the inmost a link",
+            open(64) + "a](b)" + &close(63),
+        ),
+        (
+            "65 pairs, the inmost a link",
+            open(65) + "a](b)" + &close(64),
+        ),
+        ("a link in a link 64 deep", open(63) + &links),
+        (
+            "64 open before a tail of brackets",
+            open(64) + "](<" + &open(9) + ">)",
+        ),
+        (
+            "40 open, a link, 40 opened",
+            open(40) + "[a](b)" + &open(40),
+        ),
+    ]
+    .map(|(name, note)| Case::of(name, note).tables(0, 20))
+    .into();
+    cases.push(
+        Case::of("70 links", "[a](b)".repeat(70))
+            .tables(0, 700)
+            .page(2_000),
+    );
+    cases
+}

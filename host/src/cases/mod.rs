@@ -1,0 +1,111 @@
+//! The cases that the program `samples` is run on, and what it has to print for them: the files
+//! crates/samples/stdin and crates/samples/stdout, which the program `cases` writes.
+//!
+//! Nothing here reads a note by the rules. What is expected is the second reader's answer.
+
+mod chance;
+mod characters;
+mod enquiries;
+mod expected;
+mod grammar;
+mod lending;
+mod limits;
+mod named;
+
+pub use expected::{enquiry, expected, tables_and_page};
+
+use crate::second::{DEFINITION_ROW_WIDTH, SPAN_ROW_WIDTH};
+
+/// One case: what it is, what is lent, the note, and the label that is asked for.
+pub struct Case {
+    pub name: String,
+    pub definition_numbers: usize,
+    pub span_numbers: usize,
+    pub page_bytes: usize,
+    pub note: Vec<u8>,
+    pub label: Vec<u8>,
+}
+
+impl Case {
+    /// A case that lends enough for the note, and more: a row for each `]:`, for each `]` and for
+    /// each pair of backticks, part of a row, and a page some times as long as a short note. It asks
+    /// for what stands from the first `[` to the next `]`.
+    fn of(name: impl Into<String>, note: impl AsRef<[u8]>) -> Case {
+        let note = note.as_ref().to_vec();
+        let count = |byte: u8| note.iter().filter(|other| **other == byte).count();
+        let colons = note.windows(2).filter(|two| *two == b"]:").count();
+        Case {
+            name: name.into(),
+            definition_numbers: DEFINITION_ROW_WIDTH * colons + 4,
+            span_numbers: SPAN_ROW_WIDTH * (count(b']') + count(b'`') / 2) + 3,
+            page_bytes: (6 * note.len() + 60).min(note.len() + 400),
+            label: first_bracketed(&note).to_vec(),
+            note,
+        }
+    }
+
+    /// The case with so many numbers lent to each table.
+    fn tables(self, definition_numbers: usize, span_numbers: usize) -> Case {
+        Case {
+            definition_numbers,
+            span_numbers,
+            ..self
+        }
+    }
+
+    /// The case with so many bytes lent to the page.
+    fn page(self, page_bytes: usize) -> Case {
+        Case { page_bytes, ..self }
+    }
+
+    /// The case with this label asked for.
+    fn asking(self, label: impl AsRef<[u8]>) -> Case {
+        Case {
+            label: label.as_ref().to_vec(),
+            ..self
+        }
+    }
+
+    /// The case in the container: a header line of five numbers of six digits (numbers lent to the
+    /// definition table, numbers lent to the span table, bytes lent to the page, bytes of the note,
+    /// bytes of the label), the note and a line end, the label and a line end.
+    fn contained(&self) -> Vec<u8> {
+        let header = format!(
+            "{:06} {:06} {:06} {:06} {:06}\n",
+            self.definition_numbers,
+            self.span_numbers,
+            self.page_bytes,
+            self.note.len(),
+            self.label.len()
+        );
+        [header.as_bytes(), &self.note, b"\n", &self.label, b"\n"].concat()
+    }
+}
+
+/// What stands from the first `[` to the next `]`, or to the end.
+fn first_bracketed(note: &[u8]) -> &[u8] {
+    let mut parts = note.splitn(2, |byte| *byte == b'[').skip(1);
+    let after = parts.next().unwrap_or_default();
+    after.split(|byte| *byte == b']').next().unwrap_or_default()
+}
+
+/// Every case, in order.
+pub fn all() -> Vec<Case> {
+    [
+        named::cases(),
+        limits::cases(),
+        grammar::cases(),
+        characters::cases(),
+        lending::cases(),
+        enquiries::cases(),
+        chance::cases(),
+    ]
+    .into_iter()
+    .flatten()
+    .collect()
+}
+
+/// The container of the cases.
+pub fn container(cases: &[Case]) -> Vec<u8> {
+    cases.iter().flat_map(Case::contained).collect()
+}

@@ -1,0 +1,35 @@
+//! The whole example, P1 to P13, and the sources' examples in scope.
+
+use super::Case;
+use crate::sources::examples;
+
+/// Document 01's "Whole example, 34 bytes".
+pub const WHOLE_EXAMPLE: &str = "[max]: /q2/max \"June\"\n\nUse [max].\n";
+
+/// P1 to P13.
+const SAMPLES: [&str; 13] = [
+    "[link]()",
+    "[a](<b)c>)",
+    "[link](foo\\)\\:)",
+    "[link](/my uri)",
+    "[foo][ref\\[]\n\n[ref\\[]: /uri",
+    "[foo [bar](/uri)][ref]\n\n[ref]: /uri",
+    "[foo][bar][baz]\n\n[baz]: /url",
+    "[foo][bar][baz]\n\n[baz]: /url1\n[bar]: /url2",
+    "[foo][bar][baz]\n\n[baz]: /url1\n[foo]: /url2",
+    "[foo`][ref]`\n\n[ref]: /uri",
+    "[foo](not a link)\n\n[foo]: /url1",
+    "[foo]\n\n[foo]: first\n[foo]: second",
+    "[foo]: /url\n\"title\" ok",
+];
+
+pub fn cases() -> Vec<Case> {
+    let mut cases = vec![Case::of("the whole example", WHOLE_EXAMPLE)];
+    for (index, note) in SAMPLES.iter().enumerate() {
+        cases.push(Case::of(format!("P{}", index + 1), note));
+    }
+    for example in examples().iter().filter(|example| example.is_base()) {
+        cases.push(Case::of(&example.name, &example.note));
+    }
+    cases
+}
