@@ -14,7 +14,7 @@ use Rattle.row.specs.declared.Range.{Range}
 use Rattle.row.specs.declared.Definition.{Definition}
 use Rattle.row.specs.Row.{range}
 use Rattle.row.specs.First.{bytesOf, labelsOf, FirstEqual}
-use Rattle.span.specs.Row.{width}
+use Rattle.span.specs.Row.{width, fullKind, definitionNumber}
 use Rattle.inline.specs.Paragraph.{rules}
 use Rattle.inline.specs.Rows.{rowEnd}
 use Rattle.note.specs.Note.{Marked, SpanRowsAre, EachRowOnce}
@@ -42,7 +42,7 @@ pub record RowFits (s : List ℕ) (ds : List Definition) (row : List ℕ) : Type
 
 -- where the label stands that a reference row was looked up by: between the second brackets of a full reference, else between the first
 abbrev pub lookedUp : List ℕ → Range
-lookedUp row = cond (eqb (getD row 0 0) 3) (range (getD row 4 0 + 2) (rowEnd row - 1)) (range (getD row 3 0) (getD row 4 0))
+lookedUp row = cond (eqb (getD row 0 0) fullKind) (range (getD row 4 0 + 2) (rowEnd row - 1)) (range (getD row 3 0) (getD row 4 0))
 
 -- "In a lookup the search stops at the first equal label"; "A reference's definition is the one that demand 2 names; its destination and title are that definition's."
 -- ds are the definitions of the note s.
@@ -51,7 +51,7 @@ pub record RefersTo (s : List ℕ) (ds : List Definition) (row : List ℕ) : Typ
   pub first-equal : FirstEqual (labelsOf s ds) (bytesOf s (lookedUp row)) index
   pub definition : Definition
   pub is-there : getElem? ds index ≡ some definition
-  pub number-is : getD row 5 0 ≡ index + 1
+  pub number-is : getD row 5 0 ≡ definitionNumber index
   pub target-is : drop 6 row ≡ definition .destination .start ∷ definition .destination .end ∷ definition .title .start ∷ definition .title .end ∷ []
 
 -- Demand 3 of a note s. "The link rules are stated as conditions on a finished marking of a paragraph": `Meets` and `rules`, cited by `Marked` and `ExactlyOne`.
@@ -67,4 +67,4 @@ pub record Demand3 (s : List ℕ) : Type 0 where
   pub by-paragraph : (others : List (List ℕ)) → EachRowOnce s others ↔ SpanRowsAre s others
   -- what stands in a row; of demand 2, what stands in a row of the kinds 3, 4 and 5
   pub fits : (n : Marked s) (row : List ℕ) → In row rows → RowFits s (n .definitions) row
-  pub refers : (n : Marked s) (row : List ℕ) → In row rows → 3 ≤ getD row 0 0 → RefersTo s (n .definitions) row
+  pub refers : (n : Marked s) (row : List ℕ) → In row rows → fullKind ≤ getD row 0 0 → RefersTo s (n .definitions) row

@@ -48,7 +48,7 @@ pub record SpanRows (s u u′ : List ℕ) : Type 0 where
   -- those of the links and code spans in the markings, each once, no others
   pub each-once : EachRowOnce s rows
   -- rows of the kinds 3, 4 and 5: "In a lookup the search stops at the first equal label"
-  pub refer : (row : List ℕ) → In row rows → 3 ≤ getD row 0 0 → RefersTo s (each-once .marked .definitions) row
+  pub refer : (row : List ℕ) → In row rows → spanTable.fullKind ≤ getD row 0 0 → RefersTo s (each-once .marked .definitions) row
   pub fit : length rows ≤ spanTable.wholeRows u
   pub holds : u′ ≡ spanNumbers rows ++ drop (length rows * spanTable.width) u
 
