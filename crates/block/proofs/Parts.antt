@@ -10,7 +10,7 @@ use lib.Dec.{eqb}
 use Rattle.scan.proofs.Test.{by}
 use Rattle.scan.specs.Reading.{run, clear, pastStrides, leap}
 use Rattle.scan.proofs.Leap.{leap-cons}
-use Rattle.scan.proofs.Strides.{unlike, strides-through}
+use Rattle.scan.proofs.Strides.{told-apart, strides-through}
 use Rattle.block.specs.Reading.{blankLine, lineLength, blockRest, blockLength, partLength, blockHere}
 
 pub line-some : (s : List ℕ) → 0 < length s → 0 < lineLength s
@@ -26,7 +26,7 @@ line-fits (b ∷ s) = by (eqb b 10) (λ e. rw (e, lineLength) (omega arith)) (λ
 -- strides without an LF are within the line
 line-byte : (b : ℕ) (l : List ℕ) (k : ℕ) → clear 255 10 10 10 10 10 b ≡ true → k + lineLength (b ∷ l) ≡ k + 1 + lineLength l
 unfolding lineLength
-line-byte b l k e = rw (unlike (clear 255 10 10 10 10 10) b 10 e refl, lineLength) (omega arith)
+line-byte b l k e = rw (told-apart (clear 255 10 10 10 10 10) b 10 e refl, lineLength) (omega arith)
 
 pub line-strides : (s : List ℕ) (at : ℕ) {i : ℕ} → i ≡ pastStrides (clear 255 10 10 10 10 10) s at → i + lineLength (drop i s) ≡ at + lineLength (drop at s)
 line-strides s at e = rw e (strides-through (clear 255 10 10 10 10 10) (λ (l : List ℕ) (k : ℕ). k + lineLength l) line-byte s at)

@@ -12,7 +12,7 @@ use Rattle.scan.specs.Byte.{within}
 use Rattle.scan.proofs.Test.{by, and-right, neither}
 use Rattle.scan.specs.Reading.{run, past, clear, pastStrides}
 use Rattle.scan.proofs.Scan.{run-yes, run-no, run-fits}
-use Rattle.scan.proofs.Strides.{unlike, strides-through}
+use Rattle.scan.proofs.Strides.{told-apart, strides-through}
 use Rattle.html.specs.Page.{escaped, spaced}
 use Rattle.html.specs.Reading.{asIs, textOf}
 use Rattle.html.proofs.Bytes.{plain}
@@ -79,10 +79,10 @@ module _ (mark : ℕ) where
   stride-as-is : (b : ℕ) → strided b ≡ true → asIs mark b ≡ true
   stride-as-is b e =
       simp (
-        unlike strided b 38 e refl,
-        unlike strided b 60 e refl,
-        unlike strided b 62 e refl,
-        unlike strided b 34 e refl,
+        told-apart strided b 38 e refl,
+        told-apart strided b 60 e refl,
+        told-apart strided b 62 e refl,
+        told-apart strided b 34 e refl,
         neither (within 34 38 b || within 60 62 b) (eqb b mark) (not-true (within 34 38 b || within 60 62 b || eqb b mark) (and-right (leb b 255) (not (within 34 38 b || within 60 62 b || eqb b mark)) e)) .1,
       )
 

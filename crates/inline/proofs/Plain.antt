@@ -8,7 +8,7 @@ use borrow.Author.Tests.{not-true, not-false}
 use lib.ListN.{length, getD}
 use Rattle.scan.proofs.Scan.{peek-inside, run-yes, past-on, past-stop}
 use Rattle.scan.specs.Reading.{run, past, clear, pastStrides}
-use Rattle.scan.proofs.Strides.{unlike, strides-through}
+use Rattle.scan.proofs.Strides.{told-apart, strides-through}
 use Rattle.inline.specs.Pieces.{quiet}
 
 abbrev strided : ℕ → Bool
@@ -16,7 +16,7 @@ strided b = clear 255 91 93 96 96 96 b
 
 stride-quiet : (b : ℕ) → strided b ≡ true → quiet b ≡ true
 stride-quiet b e =
-    simp (unlike strided b 96 e refl, unlike strided b 91 e refl, unlike strided b 93 e refl, unlike strided b 92 e refl)
+    simp (told-apart strided b 96 e refl, told-apart strided b 91 e refl, told-apart strided b 93 e refl, told-apart strided b 92 e refl)
 
 stride-byte : (b : ℕ) (l : List ℕ) (k : ℕ) → strided b ≡ true → k + run quiet (b ∷ l) ≡ k + 1 + run quiet l
 stride-byte b l k e = omega (arith, run-yes quiet b l (stride-quiet b e))

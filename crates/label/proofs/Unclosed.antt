@@ -9,7 +9,7 @@ use borrow.Author.Tests.{eq-eqb, ne-eqb}
 use lib.ListN.{length, getD, drop, length-drop, drop-of-length-le}
 use lib.Seq.{getD-drop}
 use lib.Dec.{eqb, eqb·zero-suc}
-use Rattle.scan.proofs.Test.{by, eqb-same}
+use Rattle.scan.proofs.Test.{by, eqb-same, and-assoc}
 use Rattle.scan.specs.Byte.{punctuation, escapes}
 use Rattle.scan.specs.Reading.{bare, scan, closingStep, closingFrom, closing}
 use Rattle.scan.proofs.Scan.{scan-cons, at-cons}
@@ -17,10 +17,6 @@ use Rattle.scan.proofs.Closing.{closes, bars, passed}
 use Rattle.scan.specs.declared.Found.{Found}
 use Rattle.scan.specs.declared.Found.the-variants.{At, Nothing}
 use Rattle.label.specs.Reading.{isAt, unclosed}
-
-and-assoc : (a b c : Bool) → ((a && b) && c) ≡ (a && (b && c))
-and-assoc true b c = refl
-and-assoc false b c = refl
 
 -- neither of two, so not the second
 right-not : (k x y : Bool) → (k && (x || y)) ≡ false → (k && y) ≡ false

@@ -14,8 +14,8 @@ use Rattle.scan.specs.Reading.{run, runs, pastStrides}
 use Rattle.scan.proofs.Scan.{run-yes, run-no, run-fits, at-cons}
 
 -- a byte that passes is none that does not
-pub unlike : (test : ℕ → Bool) (b m : ℕ) → test b ≡ true → test m ≡ false → eqb b m ≡ false
-unlike test b m e f = ne-eqb b m (λ q. true≢false (sym e ∙ ap test q ∙ f))
+pub told-apart : (test : ℕ → Bool) (b m : ℕ) → test b ≡ true → test m ≡ false → eqb b m ≡ false
+told-apart test b m e f = ne-eqb b m (λ q. true≢false (sym e ∙ ap test q ∙ f))
 
 module _ (test : ℕ → Bool) where
   -- a reading that passes each passing byte in one step passes k of them in k steps

@@ -23,6 +23,10 @@ and-right true t e = e
 and-right false true e = refl
 and-right false false e = e
 
+pub and-assoc : (a b c : Bool) → ((a && b) && c) ≡ (a && (b && c))
+and-assoc true b c = refl
+and-assoc false b c = refl
+
 pub neither : (s t : Bool) → (s || t) ≡ false → (s ≡ false) × (t ≡ false)
 neither true t e = (e, absurd (true≢false e))
 neither false t e = (refl, e)

@@ -10,17 +10,17 @@ use lib.ListN.{length, drop}
 use Rattle.scan.proofs.Test.{by, and-left}
 use Rattle.scan.specs.Reading.{pastStrides}
 use Rattle.scan.specs.declared.Found.{Found}
-use Rattle.scan.proofs.Strides.{unlike, strides-through}
+use Rattle.scan.proofs.Strides.{told-apart, strides-through}
 use Rattle.text.specs.Reading.{goodLength, goodAscii, pastAscii, firstBad}
-use Rattle.text.proofs.ByOnes.{ascii}
-use Rattle.text.proofs.Steps.{first-on, goes}
+use Rattle.text.proofs.ByOnes.{ascii-length}
+use Rattle.text.proofs.Steps.{first-on, good-passed}
 
 module _ (b : ℕ) (l : List ℕ) where
   good-one : goodAscii b ≡ true → goodLength (b ∷ l) ≡ 1
   unfolding goodLength
   good-one e =
       let h = leb-true b 127 (and-left (leb b 127) _ e) in
-      simp (unlike goodAscii b 0 e refl, unlike goodAscii b 13 e refl) (ascii b l (omega arith))
+      simp (told-apart goodAscii b 0 e refl, told-apart goodAscii b 13 e refl) (ascii-length b l (omega arith))
 
   first-byte : (at : ℕ) → goodAscii b ≡ true → firstBad (b ∷ l) at ≡ firstBad l (at + 1)
   first-byte at e = first-on (b ∷ l) at 0 (good-one e)
@@ -48,7 +48,7 @@ module _ (s : List ℕ) (at : ℕ) where
 -- with the loop's invariant in hand, `firstBad (drop i s) i ≡ r`; n and k are what calls answered
 module _ (s : List ℕ) (i : ℕ) {n k : ℕ} (e : n ≡ goodLength (drop i s)) (z : n ≡ 0 → ⊥) (q : k ≡ pastAscii s (i + n)) where
   pub goes-on : {r : Found} → firstBad (drop i s) i ≡ r → firstBad (drop k s) k ≡ r
-  goes-on inv = past-same s (i + n) q ∙ goes s i inv e z
+  goes-on inv = past-same s (i + n) q ∙ good-passed s i inv e z
 
   pub later : i < length s → length s - k < length s - i
   later h = omega (arith, past-later s (i + n))

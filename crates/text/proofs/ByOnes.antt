@@ -9,7 +9,7 @@ use borrow.Author.Tests.{eqb-true, le-ltb, le-leb, ltb-true, ltb-false}
 use lib.Dec.{eqb, leb, ltb}
 use lib.ListN.{length, getD, take, drop, drop-of-length-le}
 use lib.Seq.{take-nil, getD-drop, drop-drop}
-use Rattle.scan.proofs.Test.{by, and-left, and-right}
+use Rattle.scan.proofs.Test.{by, and-left, and-right, and-assoc}
 use Rattle.scan.proofs.Scan.{at-cons}
 use Rattle.text.specs.Utf8.{ByteRange, _‥_, table}
 use Rattle.text.specs.Sequences.{onesFrom, leadingOnes, sequenceLength}
@@ -80,10 +80,6 @@ starts-take n j r row s z =
 least-low : (b : ℕ) → leb (least b) 0 ≡ false
 least-low b = by (eqb b 0xE0) (λ e. simp e) (λ e. by (eqb b 0xF0) (λ f. simp (e, f)) (λ f. simp (e, f)))
 
-and-assoc : (p q r : Bool) → ((p && q) && r) ≡ (p && (q && r))
-and-assoc true q r = refl
-and-assoc false q r = refl
-
 and-true : (p : Bool) → (p && true) ≡ p
 and-true true = refl
 and-true false = refl
@@ -104,20 +100,20 @@ by-ones b s l h =
     table-following b s l h ∙ by (lead b) (λ e. simp (e, starts-following b s, and-assoc)) (λ e. simp e)
 
 -- ---- the character at place i, from what the calls answered
-pub ascii : (b : ℕ) (s : List ℕ) → b < 128 → characterLength (b ∷ s) ≡ 1
+pub ascii-length : (b : ℕ) (s : List ℕ) → b < 128 → characterLength (b ∷ s) ≡ 1
 unfolding characterLength rowFor table starts
-ascii b s h =
+ascii-length b s h =
     let k : b ≤ 127 = omega arith in
     let o : leads (0x00 ‥ 0x7F ∷ []) b ≡ true = simp (le-leb 0 b zero-le, le-leb b 127 k) in
     rw (row-here (0x00 ‥ 0x7F ∷ []) _ b o, o)
 
 module _ (s : List ℕ) (i : ℕ) where
-  pub past-end : length s ≤ i → 0 ≡ characterLength (drop i s)
+  pub nothing-left : length s ≤ i → 0 ≡ characterLength (drop i s)
   unfolding characterLength rowFor table starts
-  past-end h = rw (drop-of-length-le s h)
+  nothing-left h = rw (drop-of-length-le s h)
 
-  pub one : i < length s → getD s i 0 < 128 → 1 ≡ characterLength (drop i s)
-  one h k = sym (rw (at-cons s i h) (ascii _ _ k))
+  pub ascii-here : i < length s → getD s i 0 < 128 → 1 ≡ characterLength (drop i s)
+  ascii-here h k = sym (rw (at-cons s i h) (ascii-length _ _ k))
 
   -- the length n, the bytes x, y, z and the tests l, t, u, v are what the calls answered
   module _ {n x y z : ℕ} {l t u v : Bool} (h : i < length s) (k : 128 ≤ getD s i 0) (m : getD s i 0 < 256)

@@ -16,7 +16,7 @@ use Rattle.text.specs.Utf8.{ByteRange, table, Fits, Character, GoodChara
 use Rattle.text.specs.Reading.{leads, rowFor, starts, characterLength, goodLength, barred}
 use Rattle.text.proofs.Below.{every, every-at}
 use Rattle.text.proofs.Rows.{starts-length}
-use Rattle.text.proofs.ByOnes.{ascii}
+use Rattle.text.proofs.ByOnes.{ascii-length}
 use Rattle.text.proofs.Table.{table-rises, found, nonempty, listed, fits-length, fits-starts, starts-fits}
 
 -- ---- a character by the table
@@ -100,7 +100,7 @@ pub alone : (b : ℕ) (c : List ℕ) → Character (b ∷ c) → b < 128 → c �
 alone b [] w h = refl
 alone b (x ∷ c) w h =
     let e : characterLength ((b ∷ x ∷ c) ++ []) ≡ length (b ∷ x ∷ c) = by-row (w .row) (b ∷ x ∷ c) [] (w .listed) (w .fits) in
-    let f : 1 ≡ length (b ∷ x ∷ c) = sym (ascii b ((x ∷ c) ++ []) h) ∙ e in
+    let f : 1 ≡ length (b ∷ x ∷ c) = sym (ascii-length b ((x ∷ c) ++ []) h) ∙ e in
     let no : ⊥ = omega arith in absurd no
 
 pub barred-cases : {P : Type 0} (b : ℕ) → barred b ≡ true → (b ≡ 0 → P) → (b ≡ 13 → P) → P

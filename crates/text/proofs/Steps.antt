@@ -37,15 +37,15 @@ first-on (b ∷ s) at n e = let f : at + 1 + n ≡ at + suc n = omega arith in r
 
 -- ---- With the loop's invariant in hand, `firstBad (drop i s) i ≡ r`; n is what a call answered
 module _ (s : List ℕ) (i : ℕ) where
-  pub stops : {n : ℕ} {r : Found} → firstBad (drop i s) i ≡ r → i < length s → n ≡ goodLength (drop i s) → n ≡ 0 → At i ≡ r
-  stops inv h e z = sym (rw (at-cons s i h) (first-here _ _ i (rw (at-cons s i h) at (sym e ∙ z)))) ∙ inv
+  pub bad-here : {n : ℕ} {r : Found} → firstBad (drop i s) i ≡ r → i < length s → n ≡ goodLength (drop i s) → n ≡ 0 → At i ≡ r
+  bad-here inv h e z = sym (rw (at-cons s i h) (first-here _ _ i (rw (at-cons s i h) at (sym e ∙ z)))) ∙ inv
 
-  pub goes : {n : ℕ} {r : Found} → firstBad (drop i s) i ≡ r → n ≡ goodLength (drop i s) → (n ≡ 0 → ⊥) → firstBad (drop (i + n) s) (i + n) ≡ r
-  goes {n = zero} inv e z = absurd (z refl)
-  goes {n = suc n} inv e z = rw (← drop-drop (suc n) i s) (sym (first-on (drop i s) i n (sym e)) ∙ inv)
+  pub good-passed : {n : ℕ} {r : Found} → firstBad (drop i s) i ≡ r → n ≡ goodLength (drop i s) → (n ≡ 0 → ⊥) → firstBad (drop (i + n) s) (i + n) ≡ r
+  good-passed {n = zero} inv e z = absurd (z refl)
+  good-passed {n = suc n} inv e z = rw (← drop-drop (suc n) i s) (sym (first-on (drop i s) i n (sym e)) ∙ inv)
 
-  pub ends : {r : Found} → firstBad (drop i s) i ≡ r → length s ≤ i → Nothing ≡ r
-  ends inv h = sym (rw (drop-of-length-le s h) (first-end i)) ∙ inv
+  pub none-bad : {r : Found} → firstBad (drop i s) i ≡ r → length s ≤ i → Nothing ≡ r
+  none-bad inv h = sym (rw (drop-of-length-le s h) (first-end i)) ∙ inv
 
   pub within-note : {n : ℕ} → i < length s → n ≡ goodLength (drop i s) → i + n ≤ length s
   within-note h e = omega (arith, good-within (drop i s), length-drop i s)

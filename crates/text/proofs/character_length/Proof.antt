@@ -1,17 +1,17 @@
 -- The four bytes from `at` on are held against the table as `by-ones` reads it.
 use borrow.Author.Needs.{needs}
-use Rattle.text.proofs.ByOnes.{past-end, one, whole, broken}
+use Rattle.text.proofs.ByOnes.{nothing-left, ascii-here, whole, broken}
 use Rattle.text.proofs.character_length.Statement.{statement}
 use Rattle.text.proofs.character_length.Tie as tie
 
 returns : tie.Need-returns
-returns c = search (past-end, needs)
+returns c = search (nothing-left, needs)
 
 shared-slice-read-b : tie.Need-shared-slice-read-b
 shared-slice-read-b c = search needs
 
 returns-2 : tie.Need-returns-2
-returns-2 c = search (one, needs)
+returns-2 c = search (ascii-here, needs)
 
 sequence-length-requires : tie.Need-sequence-length-requires
 sequence-length-requires c κs = search needs

@@ -5,12 +5,12 @@ use mathlib.Core.Path.{_≡_}
 use lib.ListN.{length, drop}
 use borrow.Author.Needs.{needs}
 use Rattle.text.specs.Reading.{firstBad}
-use Rattle.text.proofs.Steps.{stops, ends, within-note}
+use Rattle.text.proofs.Steps.{bad-here, none-bad, within-note}
 use Rattle.text.proofs.Ascii.{past-same, goes-on, later}
 use Rattle.text.proofs.first_bad.Statement.{statement}
 use Rattle.text.proofs.first_bad.Tie as tie
 
-ruleset turns = (stops, goes-on, later, ends, needs)
+ruleset turns = (bad-here, goes-on, later, none-bad, needs)
 
 abbrev Inv-loop : tie.InvT-loop
 Inv-loop s i₀ i = firstBad (drop i s) i ≡ firstBad s 0
