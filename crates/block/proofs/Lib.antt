@@ -1,3 +1,4 @@
+pub mod Turns
 pub mod Lines
 pub mod Parts
 pub mod Blocks

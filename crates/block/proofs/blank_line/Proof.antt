@@ -1,6 +1,7 @@
 -- What is left of the text from `at` on has its line's end where the whole text has one.
 use mathlib.Core.Path.{ap, _∙_}
-use Rattle.block.specs.Reading.{lineEnds, blank-moved}
+use Rattle.block.specs.Reading.{lineEnds}
+use Rattle.block.proofs.Turns.{blank-moved}
 use borrow.Author.Needs.{needs}
 use Rattle.block.proofs.blank_line.Statement.{statement}
 use Rattle.block.proofs.blank_line.Tie as tie

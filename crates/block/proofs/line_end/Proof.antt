@@ -3,7 +3,8 @@ use borrow.Author.Needs.{needs}
 use mathlib.Core.Path.{_≡_}
 use Prim.Native.Nat.{_+_, _-_}
 use lib.ListN.{length, drop}
-use Rattle.block.specs.Reading.{lineLength, line-on, line-stop, line-done}
+use Rattle.block.specs.Reading.{lineLength}
+use Rattle.block.proofs.Turns.{line-on, line-stop, line-done}
 use Rattle.block.proofs.Parts.{line-strides}
 use Rattle.block.proofs.line_end.Statement.{statement}
 use Rattle.block.proofs.line_end.Tie as tie
