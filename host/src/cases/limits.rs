@@ -104,6 +104,10 @@ fn brackets() -> Vec<Case> {
         ("65 opening brackets in the second paragraph", second),
         ("64 opening brackets in each of two paragraphs", both),
         ("two paragraphs too deep", two_deep),
+        (
+            "65 opening brackets after letters of two bytes",
+            format!("éé\n\nüü {}", open(65)),
+        ),
         ("70 escaped brackets", "\\[".repeat(70)),
         ("70 brackets in a code span", format!("`{}`", open(70))),
         ("70 brackets in a tail", format!("[a](<{}>)", open(70))),

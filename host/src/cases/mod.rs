@@ -5,11 +5,12 @@
 
 mod chance;
 mod characters;
+mod definitions;
 mod enquiries;
 mod expected;
-mod grammar;
 mod lending;
 mod limits;
+mod links;
 mod named;
 
 pub use expected::{enquiry, expected, tables_and_page};
@@ -94,7 +95,8 @@ pub fn all() -> Vec<Case> {
     [
         named::cases(),
         limits::cases(),
-        grammar::cases(),
+        definitions::cases(),
+        links::cases(),
         characters::cases(),
         lending::cases(),
         enquiries::cases(),

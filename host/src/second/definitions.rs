@@ -90,34 +90,21 @@ impl Reader {
             let left_over = Part { start, ..block };
             outline.paragraphs.extend(self.paragraph(note, left_over));
         }
+        self.misread_repeats(&mut outline.definitions);
         outline
     }
 
     /// "From its first line, and from the block's bytes alone, definitions are taken while they can
     /// be". Answers where what is left over starts.
     fn take_definitions(self, note: &str, block: Part, found: &mut Vec<Definition>) -> usize {
-        let read_to = if self.misreads(Wrong::DefinitionPastBlock) {
-            note.len()
-        } else {
-            block.end
-        };
-        let read = Part {
-            end: read_to,
-            ..block
-        };
-        let text = Text::of_part(self, note, read);
+        let text = Text::of_part(self, note, self.block_of_definitions(note, block));
         let mut descent = Descent::from(&text, 0);
         while let Some((label, destination, title)) = descent.optionally(Descent::definition) {
-            let compared_label = self.compared_form(label.of(note));
-            let is_equal = |earlier: &Definition| earlier.compared_label == compared_label;
-            if self.misreads(Wrong::RepeatsLeftOut) && found.iter().any(is_equal) {
-                continue;
-            }
             found.push(Definition {
                 label,
                 destination,
                 title,
-                compared_label,
+                compared_label: self.compared_form(label.of(note)),
             });
             if self.misreads(Wrong::OneDefinitionABlock) {
                 break;
@@ -128,16 +115,11 @@ impl Reader {
 
     /// "bytes left over, if any, less a final LF, are a paragraph."
     fn paragraph(self, note: &str, mut left_over: Part) -> Option<Text> {
-        let ends = |part: Part, last: char| part.of(note).ends_with(last);
-        if ends(left_over, '\n') && !self.misreads(Wrong::FinalLineFeedKept) {
+        let has_final = left_over.of(note).ends_with('\n');
+        if has_final && !self.misreads(Wrong::FinalLineFeedKept) {
             left_over.end -= 1;
         }
-        while self.misreads(Wrong::LastSpacesStripped) && ends(left_over, ' ') {
-            left_over.end -= 1;
-        }
-        while self.misreads(Wrong::FirstSpacesStripped) && left_over.of(note).starts_with(' ') {
-            left_over.start += 1;
-        }
+        let left_over = self.misread_paragraph(note, left_over);
         (left_over.start < left_over.end).then(|| Text::of_part(self, note, left_over))
     }
 

@@ -208,7 +208,8 @@ impl Marking<'_> {
             let closes = pairs.next_if(|pair| pair.closing == index).is_some();
             open -= self.closed_by(*piece, closes, open);
             if open > most as isize {
-                return Some(self.text.place(piece.from));
+                let place = self.text.place(piece.from);
+                return Some(reader.misread_deep_place(self.text, place));
             }
         }
         None

@@ -97,7 +97,14 @@ impl Reader {
         }
         let definitions = self.write_definitions(&outline, lent, left)?;
         let markings = mark_each(note, &outline);
-        let spans = self.write_spans(note, &markings, lent, left)?;
+        if self.misreads(Wrong::SpansBeforeDeep) {
+            self.write_spans(&markings, lent, &mut Left::default())?;
+        }
+        self.check_depth(&markings)?;
+        if self.misreads(Wrong::PageBeforeSpans) {
+            self.write_page(note, &markings, lent, &mut Left::default())?;
+        }
+        let spans = self.write_spans(&markings, lent, left)?;
         let page = self.write_page(note, &markings, lent, left)?;
         Ok(Counts {
             definitions,
@@ -106,7 +113,7 @@ impl Reader {
         })
     }
 
-    /// Refusal 3, or the definition table's rows.
+    /// Refusal 3, or the rows of the definition table.
     fn write_definitions(
         self,
         outline: &Outline,
@@ -114,56 +121,14 @@ impl Reader {
         left: &mut Left,
     ) -> Result<usize, Refusal> {
         let definitions = outline.definitions.iter();
-        let rows: Vec<DefinitionRow> = definitions.map(|each| each.row(self)).collect();
-        let needed = rows.len();
-        let whole_rows = self.rows_lent(lent.definition_numbers, DEFINITION_ROW_WIDTH);
-        if self.is_short(whole_rows, needed, Wrong::ExactDefinitionsFew) {
-            if self.misreads(Wrong::DefinitionsThatFit) {
-                left.definition_rows = Some(rows[..whole_rows].to_vec());
-            }
-            return Err(Refusal {
-                number: number::FEW_DEFINITION_ROWS,
-                value: self.need(needed, whole_rows),
-            });
-        }
-        left.definition_rows = Some(rows);
-        Ok(needed)
+        let rows = definitions.map(|each| each.row(self)).collect();
+        let lent = self.rows_lent(lent.definition_numbers, DEFINITION_ROW_WIDTH);
+        let table = &mut left.definition_rows;
+        self.hand_over(rows, lent, table, number::FEW_DEFINITION_ROWS)
     }
 
-    /// Refusals 4 and 5, or the span table's rows. "After 4 or 5 the definition table holds its rows
-    /// and the span table is unchanged."
-    fn write_spans(
-        self,
-        note: &str,
-        markings: &[Marking],
-        lent: Lent,
-        left: &mut Left,
-    ) -> Result<usize, Refusal> {
-        let depth = self.check_depth(markings);
-        if !self.misreads(Wrong::SpansBeforeDeep) {
-            depth?;
-        }
-        if self.misreads(Wrong::PageBeforeSpans) {
-            self.check_page(page_of(note, markings).len(), lent)?;
-        }
-        let rows: Vec<SpanRow> = markings.iter().flat_map(Marking::span_rows).collect();
-        let needed = rows.len();
-        let whole_rows = self.rows_lent(lent.span_numbers, SPAN_ROW_WIDTH);
-        if self.is_short(whole_rows, needed, Wrong::ExactSpansFew) {
-            if self.misreads(Wrong::SpansThatFit) {
-                left.span_rows = Some(rows[..whole_rows].to_vec());
-            }
-            return Err(Refusal {
-                number: number::FEW_SPAN_ROWS,
-                value: self.need(needed, whole_rows),
-            });
-        }
-        depth?;
-        left.span_rows = Some(rows);
-        Ok(needed)
-    }
-
-    /// Refusal 4.
+    /// Refusal 4. "After 4 or 5 the definition table holds its rows and the span table is
+    /// unchanged."
     fn check_depth(self, markings: &[Marking]) -> Result<(), Refusal> {
         let mut too_many = (0..markings.len()).filter_map(|index| {
             markings[index].first_bracket_too_many(self.open_before(&markings[..index]))
@@ -182,8 +147,20 @@ impl Reader {
         }
     }
 
-    /// Refusal 6, or the page. "After 6 both tables hold their rows and the page buffer is
-    /// unchanged."
+    /// Refusal 5, or the rows of the span table.
+    fn write_spans(
+        self,
+        markings: &[Marking],
+        lent: Lent,
+        left: &mut Left,
+    ) -> Result<usize, Refusal> {
+        let rows = markings.iter().flat_map(Marking::span_rows).collect();
+        let lent = self.rows_lent(lent.span_numbers, SPAN_ROW_WIDTH);
+        self.hand_over(rows, lent, &mut left.span_rows, number::FEW_SPAN_ROWS)
+    }
+
+    /// Refusal 6, or the page, where one is asked for. "After 6 both tables hold their rows and the
+    /// page buffer is unchanged."
     fn write_page(
         self,
         note: &str,
@@ -191,28 +168,36 @@ impl Reader {
         lent: Lent,
         left: &mut Left,
     ) -> Result<usize, Refusal> {
-        let page = page_of(note, markings).into_bytes();
-        let needed = page.len();
-        let fits = self.check_page(needed, lent);
-        if let (Err(_), Some(bytes)) = (fits, lent.page_bytes) {
-            if self.misreads(Wrong::PageThatFits) {
-                left.page = Some(page[..bytes].to_vec());
-            }
-        }
-        fits?;
-        left.page = Some(page);
-        Ok(needed)
+        let Some(lent) = lent.page_bytes else {
+            return Ok(0);
+        };
+        let page = markings
+            .iter()
+            .flat_map(|each| each.html(note).into_bytes());
+        self.hand_over(page.collect(), lent, &mut left.page, number::PAGE_TOO_SHORT)
     }
 
-    /// Refusal 6.
-    fn check_page(self, needed: usize, lent: Lent) -> Result<(), Refusal> {
-        match lent.page_bytes {
-            Some(bytes) if self.is_short(bytes, needed, Wrong::ExactPageShort) => Err(Refusal {
-                number: number::PAGE_TOO_SHORT,
-                value: self.need(needed, bytes),
-            }),
-            _ => Ok(()),
+    /// Leaves all rows, or bytes, where as many are lent as there are; otherwise the refusal, with
+    /// how many are needed. Answers how many there are.
+    fn hand_over<T: Clone>(
+        self,
+        all: Vec<T>,
+        lent: usize,
+        left: &mut Option<Vec<T>>,
+        refusal: u32,
+    ) -> Result<usize, Refusal> {
+        let needed = all.len();
+        if lent < needed || (lent == needed && self.misreads(Wrong::ExactIsShort(refusal))) {
+            if self.misreads(Wrong::WritesWhatFits(refusal)) {
+                *left = Some(all[..lent].to_vec());
+            }
+            return Err(Refusal {
+                number: refusal,
+                value: self.need(needed, lent),
+            });
         }
+        *left = Some(all);
+        Ok(needed)
     }
 
     pub fn resolve(self, note: &[u8], label: &[u8]) -> ResolveAnswer {
@@ -228,7 +213,11 @@ impl Reader {
         }
         let note = self.checked_note(note)?;
         let label = self.checked_label(label)?;
-        let definitions = self.outline(note).definitions;
+        let outline = self.outline(note);
+        if self.misreads(Wrong::EnquiryRefusesDeep) {
+            self.check_depth(&mark_each(note, &outline))?;
+        }
+        let definitions = outline.definitions;
         match self.look_up(&definitions, label) {
             Some(found) => {
                 let destination = definitions[found - 1].destination;
@@ -271,13 +260,4 @@ fn mark_each<'t>(note: &'t str, outline: &'t Outline) -> Vec<Marking<'t>> {
             })
         })
         .collect()
-}
-
-/// The page of a note.
-fn page_of(note: &str, markings: &[Marking]) -> String {
-    markings
-        .iter()
-        .map(|marking| marking.html(note))
-        .collect::<Vec<String>>()
-        .concat()
 }

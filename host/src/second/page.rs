@@ -151,6 +151,7 @@ impl Reader {
                 '>' => html += "&gt;",
                 '"' => html += "&quot;",
                 '\'' if self.misreads(Wrong::ApostropheEscaped) => html += "&#39;",
+                '\n' if self.misreads(Wrong::LineFeedSpaced(written)) => html.push(' '),
                 other => html.push(other),
             }
         }

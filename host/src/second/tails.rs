@@ -140,12 +140,8 @@ impl Tails<'_> {
 
     fn look_up(&self, label: &str) -> Option<usize> {
         let reader = self.text.reader;
-        let paragraph = self.text.place(0);
-        let is_seen = |definition: &Definition| {
-            definition.label.start < paragraph || !reader.misreads(Wrong::LaterDefinitionsUnseen)
-        };
-        let seen = self.definitions.partition_point(is_seen);
-        reader.look_up(&self.definitions[..seen], label)
+        let seen = reader.definitions_seen(self.definitions, self.text.place(0));
+        reader.look_up(seen, label)
     }
 
     /// The tail of a reference: "its destination and title are that definition's".

@@ -42,12 +42,13 @@ impl Reader {
         let bad_byte = bytes[..well_formed_to]
             .iter()
             .position(|byte| self.is_bad(*byte));
-        match (bad_byte, text) {
-            (_, Err(_)) if self.misreads(Wrong::IllFormedBeforeBadByte) => Err(well_formed_to),
-            (Some(place), _) => Err(place),
-            (None, Ok(text)) => Ok(text),
-            (None, Err(_)) => Err(well_formed_to),
-        }
+        let place = match (bad_byte, text) {
+            (_, Err(_)) if self.misreads(Wrong::IllFormedBeforeBadByte) => well_formed_to,
+            (Some(place), _) => place,
+            (None, Ok(text)) => return Ok(text),
+            (None, Err(_)) => well_formed_to,
+        };
+        Err(self.misread_bad_place(bytes, place))
     }
 }
 

@@ -1,8 +1,15 @@
 //! Wrong readings. A [`Reader`] reads as document 01 says, or misreads one rule in a way that a
-//! person might: a [`Wrong`] is a switch, consulted where the rule stands.
+//! person might: a [`Wrong`] is a switch, consulted where the rule stands. Where more than a yes or
+//! no is wanted, the rooms here answer: as the rule says, but for the wrong readings they name.
 
-mod effects;
+mod answers;
+mod definitions;
+mod labels;
+mod marking;
+mod page;
+mod rows;
 mod switches;
+mod text;
 
 pub use switches::{Gap, IllFormed, Within, Written, Wrong};
 

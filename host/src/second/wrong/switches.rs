@@ -1,5 +1,7 @@
 //! The switches: every wrong reading that the second reader can be told to make.
 
+use super::super::answers::number;
+
 /// Where separating space stands.
 #[derive(Clone, Copy, Debug, PartialEq, Eq)]
 pub enum Gap {
@@ -69,12 +71,18 @@ macro_rules! switches {
             SpaceNotNeeded(Gap),
             /// The character is written as it is there.
             Unescaped(Written, char),
+            /// An LF in it becomes a space, as in code.
+            LineFeedSpaced(Written),
             /// The byte stays in an href exactly when it should not.
             HrefOf(u8),
             /// The character is no space in a comparison of labels.
             NoLabelSpace(char),
             /// The byte is folded exactly when it should not be.
             FoldOf(u8),
+            /// The refusal with this number is given though exactly enough is lent.
+            ExactIsShort(u32),
+            /// The refusal with this number comes with the rows or bytes for which there is room.
+            WritesWhatFits(u32),
             /// Such bytes are taken for characters.
             Forgives(IllFormed),
         }
@@ -101,14 +109,13 @@ switches! {
     ControlsBad,
     /// The place is where the ill-formed sequence ends.
     PlaceAfterIllFormed,
+    /// The place counts characters.
+    BadPlaceInCharacters,
 
     // Refusals 3 to 6: order, need, values, counts.
     DeepBeforeDefinitions,
     SpansBeforeDeep,
     PageBeforeSpans,
-    ExactDefinitionsFew,
-    ExactSpansFew,
-    ExactPageShort,
     /// A part of a row counts as a row.
     PartRowsCount,
     /// The value is what is missing, not what is needed.
@@ -117,9 +124,6 @@ switches! {
     CountsOnRefusal,
 
     // What is left in lent memory.
-    DefinitionsThatFit,
-    SpansThatFit,
-    PageThatFits,
     /// After 4 and 5 the definition table is unchanged.
     DefinitionsTakenBack,
     /// After 6 the tables are unchanged.
@@ -233,6 +237,8 @@ switches! {
     OneBracketFewer,
     OneBracketMore,
     LastDeepParagraph,
+    DeepPlaceFromParagraph,
+    DeepPlaceInCharacters,
     PairedStayOpen,
     /// A `]` that pairs with nothing makes room for one more.
     UnpairedCloses,
@@ -285,6 +291,8 @@ switches! {
     CodeTabDropped,
 
     // The enquiry.
+    /// The enquiry gives refusal 4 too.
+    EnquiryRefusesDeep,
     LabelBeforeNote,
     /// A label that is none is an undefined label.
     NoLabelIsUndefined,
@@ -307,7 +315,9 @@ impl Wrong {
         all.extend(written_bytes());
         all.extend(['\t', '\n', ' '].map(Wrong::NoLabelSpace));
         all.extend((b'@'..=b'[').map(Wrong::FoldOf));
-        all.extend(forgiven_forms().map(Wrong::Forgives));
+        all.extend(SHORT.map(Wrong::ExactIsShort));
+        all.extend(SHORT.map(Wrong::WritesWhatFits));
+        all.extend(FORMS.map(Wrong::Forgives));
         all
     }
 
@@ -315,7 +325,8 @@ impl Wrong {
     pub fn is_of_enquiry(self) -> bool {
         matches!(
             self,
-            Wrong::LabelBeforeNote
+            Wrong::EnquiryRefusesDeep
+                | Wrong::LabelBeforeNote
                 | Wrong::NoLabelIsUndefined
                 | Wrong::LabelJudgedAlone
                 | Wrong::LabelWithBrackets
@@ -380,19 +391,25 @@ fn written_bytes() -> Vec<Wrong> {
     for written in [Written::Text, Written::Code, Written::Title] {
         all.extend(['&', '<', '>', '"'].map(|raw| Wrong::Unescaped(written, raw)));
     }
+    all.extend([Written::Text, Written::Title].map(Wrong::LineFeedSpaced));
     let ascii = note_characters('\u{7f}').filter(|character| *character != '\n');
     all.extend(ascii.map(|character| Wrong::HrefOf(character as u8)));
     all.extend((0x80..=0xbf).chain(0xc2..=0xf4).map(Wrong::HrefOf));
     all
 }
 
-fn forgiven_forms() -> [IllFormed; 6] {
-    [
-        IllFormed::Overlong,
-        IllFormed::Surrogate,
-        IllFormed::PastTheLast,
-        IllFormed::FiveBytes,
-        IllFormed::Stray,
-        IllFormed::CutShort,
-    ]
-}
+/// The refusals for which too little is lent.
+const SHORT: [u32; 3] = [
+    number::FEW_DEFINITION_ROWS,
+    number::FEW_SPAN_ROWS,
+    number::PAGE_TOO_SHORT,
+];
+
+const FORMS: [IllFormed; 6] = [
+    IllFormed::Overlong,
+    IllFormed::Surrogate,
+    IllFormed::PastTheLast,
+    IllFormed::FiveBytes,
+    IllFormed::Stray,
+    IllFormed::CutShort,
+];
