@@ -1,13 +1,3 @@
-pub mod Writing
-pub mod Copying
-pub mod Bytes
-pub mod Undone
-pub mod AsIs
-pub mod Margin
 pub mod Link
-pub mod Escapes
-pub mod Trimming
-pub mod Cases
-pub mod Lengths
-pub mod Safety
 pub mod Tags
+pub mod Lengths

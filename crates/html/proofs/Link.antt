@@ -5,7 +5,9 @@ use mathlib.Core.Path.{_≡_, refl}
 use mathlib.Core.List.{List, [], _∷_, _++_}
 use lib.ListN.{length, length-append}
 use Rattle.scan.specs.Ascii.{ascii}
-use Rattle.html.specs.Reading.{textOf, hrefOf, titleAttribute, linkOpen}
+use Rattle.escaping.specs.Reading.{textOf}
+use Rattle.href.specs.Reading.{hrefOf}
+use Rattle.html.specs.Reading.{titleAttribute, linkOpen}
 
 pub no-title : (l : List ℕ) → length l ≡ 0 → titleAttribute l ≡ []
 unfolding titleAttribute

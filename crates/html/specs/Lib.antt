@@ -1,5 +1,3 @@
-pub mod Page
-pub mod Stored
+pub mod Tags
 pub mod Reading
-pub mod Safe
 pub mod Samples

@@ -14,8 +14,9 @@ use Rattle.inline.specs.Rows.{rowEnd}
 use Rattle.note.specs.Note.{SpanRowsAre}
 use Rattle.note.specs.Reading.{spanRows}
 use Rattle.note.proofs.SpanRows.{span-rows-iff}
-use Rattle.html.specs.Page.{paragraphOpen, paragraphClose}
-use Rattle.html.specs.Reading.{codeSpan, linkOpen}
+use Rattle.html.specs.Tags.{paragraphOpen, paragraphClose}
+use Rattle.code.specs.Reading.{codeElement}
+use Rattle.html.specs.Reading.{linkOpen}
 use Rattle.page.specs.Page.{PageIs}
 use Rattle.page.specs.Reading.{Written, rowStart, destination, title, firstRow, codeStarts, linkStarts, linkCloses, writtenBy, writtenAt, contentFrom, paragraphPage, pageBy, pageOf}
 use Rattle.page.specs.Claims.{SameParts}
@@ -32,7 +33,7 @@ module _ (s : List ℕ) where
 module _ (s t : List ℕ) (rows : List (List ℕ)) (same : (row : List ℕ) → In row rows → SameParts s t row) where
   same-written : (a o c : Option (List ℕ)) → ((r : List ℕ) → a ≡ some r → In r rows) → ((r : List ℕ) → o ≡ some r → In r rows) → (l : List ℕ) → writtenBy s a o c l ≡ writtenBy t a o c l
   unfolding writtenBy
-  same-written (some r) o c f g l = ap (λ (x : List ℕ). record { size = rowEnd r - rowStart r; bytes = codeSpan x }) (same r (f r refl) .text-same)
+  same-written (some r) o c f g l = ap (λ (x : List ℕ). record { size = rowEnd r - rowStart r; bytes = codeElement x }) (same r (f r refl) .text-same)
   same-written none (some r) c f g l =
       ap (λ (x : List ℕ). record { size = 1; bytes = linkOpen x (bytesOf s (title r)) }) (same r (g r refl) .destination-same)
       ∙ ap (λ (x : List ℕ). record { size = 1; bytes = linkOpen (bytesOf t (destination r)) x }) (same r (g r refl) .title-same)

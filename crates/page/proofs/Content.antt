@@ -18,7 +18,7 @@ use Rattle.inline.specs.Tails.{Tail, lengthOf}
 use Rattle.note.specs.Note.{MarkingOf}
 use Rattle.page.specs.Page.{ParagraphIs, paragraph}
 use Rattle.page.specs.Reading.{contentFrom, paragraphPage, from}
-use Rattle.html.specs.Page.{paragraphOpen, paragraphClose}
+use Rattle.html.specs.Tags.{paragraphOpen, paragraphClose}
 use Rattle.page.proofs.Turns.{at-end}
 use Rattle.page.proofs.Pieces.{RowsHere, closing-role, same-index, grows}
 use Rattle.page.proofs.Texts.{pieceText, texts-are, texts-only}

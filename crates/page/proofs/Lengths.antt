@@ -15,10 +15,13 @@ use Rattle.row.specs.First.{bytesOf}
 use Rattle.definition.specs.Reading.{paragraphFrom, paragraphOf, definitionsOf, paragraphsIn, paragraphs, upToEnd}
 use Rattle.definition.proofs.NotePlaces.{Ordered, done, next, paragraphs-in-order}
 use Rattle.note.specs.Reading.{spanRows}
-use Rattle.html.specs.Page.{escaped, paragraphOpen, paragraphClose}
-use Rattle.html.specs.Reading.{undone, backslash}
-use Rattle.html.specs.Stored.{pageMost}
-use Rattle.html.proofs.Lengths.{text-most, code-span-most, open-most}
+use Rattle.escaping.specs.Escaping.{escaped}
+use Rattle.html.specs.Tags.{paragraphOpen, paragraphClose}
+use Rattle.escaping.specs.Reading.{undone, backslash}
+use Rattle.buffer.specs.Stored.{pageMost}
+use Rattle.escaping.proofs.Lengths.{text-most}
+use Rattle.code.proofs.Lengths.{code-span-most}
+use Rattle.html.proofs.Lengths.{open-most}
 use Rattle.page.specs.Page.{PageIs}
 use Rattle.page.specs.Reading.{text, destination, title, writtenBy, writtenAt, firstRow, codeStarts, linkStarts, linkCloses, contentFrom, paragraphPage, pageBy, pageOf}
 use Rattle.page.proofs.Page.{page-iff}

@@ -9,10 +9,15 @@ use Rattle.block.specs.Block.{Placed}
 use Rattle.row.specs.First.{bytesOf}
 use Rattle.definition.specs.Reading.{paragraphs}
 use Rattle.note.specs.Reading.{spanRows}
-use Rattle.html.specs.Page.{escaped}
-use Rattle.html.specs.Reading.{undone, backslash, textOf, hrefOf, codeSpan, titleAttribute, linkOpen}
-use Rattle.html.specs.Safe.{Clean}
-use Rattle.html.proofs.Safety.{text-clean, href-clean, code-clean}
+use Rattle.escaping.specs.Escaping.{escaped}
+use Rattle.escaping.specs.Reading.{undone, backslash, textOf}
+use Rattle.href.specs.Reading.{hrefOf}
+use Rattle.code.specs.Reading.{codeElement}
+use Rattle.html.specs.Reading.{titleAttribute, linkOpen}
+use Rattle.escaping.specs.Clean.{Clean}
+use Rattle.escaping.proofs.Safety.{text-clean}
+use Rattle.href.proofs.Safety.{href-clean}
+use Rattle.code.proofs.Safety.{code-clean}
 use Rattle.page.specs.Page.{PageIs}
 use Rattle.page.specs.Reading.{text, destination, title, writtenBy, writtenAt, firstRow, codeStarts, linkStarts, linkCloses, contentFrom, paragraphPage, pageBy, pageOf}
 use Rattle.page.specs.Claims.{Tag, paragraph-open, paragraph-close, code-open, code-close, link-open, link-open-titled, link-close, Tagged, tag, clean}
@@ -35,7 +40,7 @@ escaped-tagged : (b : ℕ) → Tagged (escaped b)
 unfolding undone flatMap
 escaped-tagged b = one-clean (subst Clean (append-nil (escaped b)) (text-clean (b ∷ [])))
 
-code-tagged : (l : List ℕ) → Tagged (codeSpan l)
+code-tagged : (l : List ℕ) → Tagged (codeElement l)
 code-tagged l = tagged-append (tagged-append (one-tag code-open) (one-clean (code-clean l))) (one-tag code-close)
 
 regroup : (a h q t g : List ℕ) → a ++ h ++ q ++ t ++ g ≡ a ++ (h ++ (q ++ (t ++ g)))

@@ -30,7 +30,7 @@ use Rattle.inline.proofs.Starting.{starts-iff}
 use Rattle.inline.proofs.SpanBounds.{SpanWithin, span-within}
 use Rattle.note.specs.Note.{MarkingOf}
 use Rattle.note.proofs.Placing.{part-bytes}
-use Rattle.html.specs.Page.{escaped}
+use Rattle.escaping.specs.Escaping.{escaped}
 use Rattle.page.specs.Reading.{rowStart, textEnd, text, firstRow, codeStarts, linkStarts, linkCloses, from, Bare}
 use Rattle.page.proofs.Found.{none-if, by-found}
 use Rattle.page.proofs.Turns.{turn-escape, turn-byte, turn-bytes, turn-code, turn-open, turn-close}

@@ -18,10 +18,12 @@ use Rattle.inline.specs.Tails.{Tail}
 use Rattle.inline.specs.ReadingRows.{textOf, spanRow}
 use Rattle.inline.proofs.SpanRows.{code-text-read, code-text-is}
 use Rattle.note.specs.Note.{MarkingOf}
-use Rattle.html.specs.Page.{escaped, linkClose}
-use Rattle.html.specs.Reading as html
+use Rattle.escaping.specs.Escaping.{escaped}
+use Rattle.html.specs.Tags.{linkClose}
+use Rattle.code.specs.Reading.{codeElement}
 use Rattle.html.specs.Reading.{linkOpen}
-use Rattle.html.proofs.Tags.{code-span-iff, link-open-iff}
+use Rattle.code.proofs.Element.{code-span-iff}
+use Rattle.html.proofs.Tags.{link-open-iff}
 use Rattle.page.specs.Page as law
 use Rattle.page.specs.Page.{PieceIs, PiecesAre}
 use Rattle.page.specs.Reading.{destination, title, firstRow, linkStarts, linkCloses}
@@ -41,7 +43,7 @@ module _ (s : List ℕ) (rows : List (List ℕ)) (q : Placed) where
   abbrev pub textBy : Kind → Piece → List ℕ
   textBy escape x = escaped (getD (q .bytes) (x .start + 1) 0)
   textBy plain x = flatMap escaped (bytesOf (q .bytes) (range (x .start) (x .end)))
-  textBy code x = html.codeSpan (bytesOf (q .bytes) (textOf (q .bytes) (codeSpan x)))
+  textBy code x = codeElement (bytesOf (q .bytes) (textOf (q .bytes) (codeSpan x)))
   textBy opens x = openText s (firstRow (linkStarts (q .at + x .start)) rows)
   textBy closes x = closeText (firstRow (linkCloses (q .at + x .start)) rows)
   textBy tail x = []
@@ -61,7 +63,7 @@ module _ (s : List ℕ) (ds : List Definition) (q : Placed) (m : Marking Tail) (
     open-law e (some r) g =
         let o = open-at s ds q m c rows h k x a (x .start) (omega arith) (grows s ds q m c k x a (bracket-open e)) (stands-inside s ds q m c k x a (bracket-open e)) r g in
         subst (λ (y : List ℕ). PieceIs s ds q m x (linkOpen (bytesOf s (destination y)) (bytesOf s (title y)))) (o .row-is)
-        (law.link-opening (o .link) (link-open-iff _ (some _) _ .1 refl))
+        (law.link-opening (o .link) (link-open-iff _ _ _ .1 refl))
     open-law e none g = law.opening e (λ d t l. open-found s ds q m c rows h x d t l g)
 
     close-law : x .kind ≡ closes → (f : Option (List ℕ)) → firstRow (linkCloses (q .at + x .start)) rows ≡ f → PieceIs s ds q m x (closeText f)
@@ -118,9 +120,9 @@ module _ (s : List ℕ) (ds : List Definition) (q : Placed) (m : Marking Tail) (
     text-only (law.escape e) = as-kind escape e
     text-only (law.text e) = as-kind plain e
     text-only {w} (law.code-span {text = t} e l p) =
-        as-kind code e ∙ ap (λ (y : Range). html.codeSpan (bytesOf (q .bytes) y)) (code-text-read (q .bytes) x t l) ∙ code-span-iff (bytesOf (q .bytes) t) w .0 p
+        as-kind code e ∙ ap (λ (y : Range). codeElement (bytesOf (q .bytes) y)) (code-text-read (q .bytes) x t l) ∙ code-span-iff (bytesOf (q .bytes) t) w .0 p
     text-only {w} (law.link-opening {c = d} {t = t} l p) =
-        as-kind opens (opens-kind (x .kind) (opening-role s ds q m c x d t l)) ∙ open-only d t l _ refl ∙ link-open-iff _ (some _) w .0 p
+        as-kind opens (opens-kind (x .kind) (opening-role s ds q m c x d t l)) ∙ open-only d t l _ refl ∙ link-open-iff _ _ w .0 p
     text-only (law.link-closing {o = o} {t = t} l) = as-kind closes (closes-kind (x .kind) (closing-role s ds q m c o x t l)) ∙ close-only o t l _ refl
     text-only (law.opening e n) = as-kind opens e ∙ ap (openText s) (not-open e n)
     text-only (law.closing e n) = as-kind closes e ∙ ap closeText (not-close e n)

@@ -12,8 +12,10 @@ use Rattle.scan.specs.Byte.{escapes}
 use Rattle.scan.proofs.Scan.{at-cons}
 use Rattle.row.specs.First.{bytesOf}
 use Rattle.inline.specs.Rows.{rowEnd}
-use Rattle.html.specs.Page.{escaped, linkClose}
-use Rattle.html.specs.Reading.{codeSpan, linkOpen}
+use Rattle.escaping.specs.Escaping.{escaped}
+use Rattle.html.specs.Tags.{linkClose}
+use Rattle.code.specs.Reading.{codeElement}
+use Rattle.html.specs.Reading.{linkOpen}
 use Rattle.page.specs.Reading.{rowStart, textEnd, text, destination, title, Written, unit, firstRow, codeStarts, linkStarts, linkCloses, writtenBy, writtenAt, contentFrom}
 use Rattle.page.specs.Reading as reading
 
@@ -89,12 +91,12 @@ module _ (s : List ℕ) (rows : List (List ℕ)) (p : List ℕ) (off : ℕ) wher
 
   -- ---- a row stands there; the next turn is at e
   pub turn-code : (a e : ℕ) (r : List ℕ) → a < length p → firstRow (codeStarts (off + a)) rows ≡ some r → a < e → rowEnd r - rowStart r ≡ e - a
-      → from a ≡ codeSpan (bytesOf s (text r)) ++ from e
+      → from a ≡ codeElement (bytesOf s (text r)) ++ from e
   unfolding writtenBy
   turn-code a e r h k l z =
-      let g : here a ≡ record { size = rowEnd r - rowStart r; bytes = codeSpan (bytesOf s (text r)) } = rw k refl in
+      let g : here a ≡ record { size = rowEnd r - rowStart r; bytes = codeElement (bytesOf s (text r)) } = rw k refl in
       let j : a + suc (e - a - 1) ≡ e = omega arith in
-      turn a (e - a - 1) h g (omega arith) ∙ ap (λ (i : ℕ). codeSpan (bytesOf s (text r)) ++ from i) j
+      turn a (e - a - 1) h g (omega arith) ∙ ap (λ (i : ℕ). codeElement (bytesOf s (text r)) ++ from i) j
 
   pub turn-open : (a : ℕ) (r : List ℕ) → a < length p → firstRow (codeStarts (off + a)) rows ≡ none → firstRow (linkStarts (off + a)) rows ≡ some r
       → from a ≡ linkOpen (bytesOf s (destination r)) (bytesOf s (title r)) ++ from (a + 1)

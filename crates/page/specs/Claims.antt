@@ -12,9 +12,10 @@ use Rattle.row.specs.declared.Definition.{Definition}
 use Rattle.row.specs.First.{bytesOf}
 use Rattle.definition.specs.Note.{NoteIs}
 use Rattle.note.specs.Note.{SpanRowsAre}
-use Rattle.html.specs.Page.{paragraphOpen, paragraphClose, codeOpen, codeClose, linkClose}
-use Rattle.html.specs.Safe.{Clean}
-use Rattle.html.specs.Stored.{pageMost}
+use Rattle.html.specs.Tags.{paragraphOpen, paragraphClose, linkClose}
+use Rattle.code.specs.Code.{codeOpen, codeClose}
+use Rattle.escaping.specs.Clean.{Clean}
+use Rattle.buffer.specs.Stored.{pageMost}
 use Rattle.page.specs.Page.{PageIs}
 use Rattle.page.specs.Reading.{text, destination, title, pageBy, pageOf}
 

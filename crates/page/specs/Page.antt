@@ -1,7 +1,6 @@
 -- The page of a note: what stands on it for each piece of the markings. Document 01, "The page".
 use Prim.Native.Nat.{ℕ, _+_}
 use mathlib.Core.Path.{_≡_}
-use mathlib.Core.Option.{some}
 use mathlib.Core.List.{List, [], _∷_, _++_, flatMap}
 use lib.ListN.{getD}
 use Rattle.marking.specs.Marking.{Piece, Marking}
@@ -15,7 +14,9 @@ use Rattle.row.specs.First.{bytesOf}
 use Rattle.inline.specs.Tails.{Tail}
 use Rattle.inline.specs.Rows.{CodeText, Target, targetOf}
 use Rattle.note.specs.Note.{Marked}
-use Rattle.html.specs.Page.{escaped, CodeSpan, LinkOpen, linkClose, paragraphOpen, paragraphClose}
+use Rattle.escaping.specs.Escaping.{escaped}
+use Rattle.code.specs.Code.{CodeElement}
+use Rattle.html.specs.Tags.{LinkOpen, linkClose, paragraphOpen, paragraphClose}
 
 -- a paragraph q of the note s, whose definitions are ds, with its marking m
 module _ (s : List ℕ) (ds : List Definition) (q : Placed) (m : Marking Tail) where
@@ -30,11 +31,11 @@ module _ (s : List ℕ) (ds : List Definition) (q : Placed) (m : Marking Tail) w
     -- "`&`, `<`, `>`, `"` become `&amp;`, `&lt;`, `&gt;`, `&quot;` in text"
     text : {x : Piece} → x .kind ≡ kinds.plain → PieceIs x (flatMap escaped (bytesOf (q .bytes) (range (x .start) (x .end))))
     -- "Code: `<code>`, content, `</code>`"
-    code-span : {x : Piece} {text : Range} {w : List ℕ} → x .kind ≡ kinds.code → CodeText (q .bytes) x text → CodeSpan (bytesOf (q .bytes) text) w → PieceIs x w
+    code-span : {x : Piece} {text : Range} {w : List ℕ} → x .kind ≡ kinds.code → CodeText (q .bytes) x text → CodeElement (bytesOf (q .bytes) text) w → PieceIs x w
     -- "Links: `<a href="D" title="T">text</a>`": for the opening bracket of a link its tag, for the closing bracket `</a>`.
     -- An absent title is the part 0, 0, so that it is empty.
     link-opening : {x c : Piece} {t : Tail} {w : List ℕ} → LinkOf m x c t
-        → LinkOpen (bytesOf s (target x c t .destination)) (some (bytesOf s (target x c t .title))) w → PieceIs x w
+        → LinkOpen (bytesOf s (target x c t .destination)) (bytesOf s (target x c t .title)) w → PieceIs x w
     link-closing : {o x : Piece} {t : Tail} → LinkOf m o x t → PieceIs x linkClose
     -- any other bracket is itself
     opening : {x : Piece} → x .kind ≡ kinds.opens → ((c : Piece) (t : Tail) → LinkOf m x c t → ⊥) → PieceIs x (91 ∷ [])

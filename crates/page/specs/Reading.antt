@@ -13,8 +13,11 @@ use Rattle.row.specs.First.{bytesOf}
 use Rattle.definition.specs.Reading.{paragraphs}
 use Rattle.inline.specs.Rows.{rowEnd}
 use Rattle.note.specs.Reading.{spanRows}
-use Rattle.html.specs.Page.{escaped, linkClose, paragraphOpen, paragraphClose}
-use Rattle.html.specs.Reading.{backslash, codeSpan, linkOpen}
+use Rattle.escaping.specs.Escaping.{escaped}
+use Rattle.html.specs.Tags.{linkClose, paragraphOpen, paragraphClose}
+use Rattle.escaping.specs.Reading.{backslash}
+use Rattle.code.specs.Reading.{codeElement}
+use Rattle.html.specs.Reading.{linkOpen}
 
 -- ---- the numbers of a row
 abbrev pub isCode : List ℕ → Bool
@@ -65,7 +68,7 @@ unit l = written (backslash l + 1) (escaped (getD l (backslash l) 0))
 
 -- by the code span that starts there, the link that starts there, the link whose text ends there
 unfoldable pub writtenBy : List ℕ → Option (List ℕ) → Option (List ℕ) → Option (List ℕ) → List ℕ → Written
-writtenBy s (some r) o c l = written (rowEnd r - rowStart r) (codeSpan (bytesOf s (text r)))
+writtenBy s (some r) o c l = written (rowEnd r - rowStart r) (codeElement (bytesOf s (text r)))
 writtenBy s none (some r) c l = written 1 (linkOpen (bytesOf s (destination r)) (bytesOf s (title r)))
 writtenBy s none none (some r) l = written (rowEnd r - textEnd r) linkClose
 writtenBy s none none none l = unit l

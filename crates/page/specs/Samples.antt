@@ -17,8 +17,11 @@ use Rattle.definition.specs.Reading as definition
 use Rattle.inline.specs.ReadingPieces.{countAfter, runStep, runDone, closingRun, pieceFrom}
 use Rattle.inline.specs.ReadingTails.{closedAt, afterDestination, inlineOf, labelAfter, textTail, tailOf}
 use Rattle.note.specs.Reading.{labels, rowsIn, spanRows}
-use Rattle.html.specs.Page.{escaped, stays, hexDigit, hrefByte}
-use Rattle.html.specs.Reading.{undone, margin, titleAttribute, linkOpen}
+use Rattle.escaping.specs.Escaping.{escaped}
+use Rattle.href.specs.Href.{stays, hexDigit, hrefByte}
+use Rattle.escaping.specs.Reading.{undone}
+use Rattle.code.specs.Reading.{margin}
+use Rattle.html.specs.Reading.{titleAttribute, linkOpen}
 use Rattle.page.specs.Reading.{firstRow, writtenBy, contentFrom, paragraphPage, pageBy, pageOf}
 
 pub record Sample : Type 0 where

@@ -12,8 +12,8 @@ use Rattle.row.specs.Row as definitionTable
 use Rattle.span.specs.Row as spanTable
 use Rattle.note.specs.Reading.{spanRows}
 use Rattle.note.proofs.EachRow.{each-row-iff}
-use Rattle.html.specs.Stored.{Writes}
-use Rattle.html.proofs.Writing.{measured}
+use Rattle.buffer.specs.Stored.{Writes}
+use Rattle.buffer.proofs.Writing.{measured}
 use Rattle.page.specs.Reading.{pageOf}
 use Rattle.writer.specs.Spanned.{Spanned}
 use Rattle.notice.specs.declared.Reading.{Reading}

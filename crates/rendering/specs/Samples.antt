@@ -22,8 +22,11 @@ use Rattle.span.specs.Row as spanTable
 use Rattle.inline.specs.ReadingPieces.{countAfter, runStep, runDone, closingRun, pieceFrom}
 use Rattle.inline.specs.ReadingTails.{closedAt, afterDestination, inlineOf, labelAfter, textTail, tailOf}
 use Rattle.note.specs.Reading.{labels, rowsIn, spanRows, deepIn, firstDeep}
-use Rattle.html.specs.Page.{escaped, stays, hexDigit, hrefByte}
-use Rattle.html.specs.Reading.{undone, margin, titleAttribute, linkOpen}
+use Rattle.escaping.specs.Escaping.{escaped}
+use Rattle.href.specs.Href.{stays, hexDigit, hrefByte}
+use Rattle.escaping.specs.Reading.{undone}
+use Rattle.code.specs.Reading.{margin}
+use Rattle.html.specs.Reading.{titleAttribute, linkOpen}
 use Rattle.page.specs.Reading.{firstRow, writtenBy, contentFrom, paragraphPage, pageBy, pageOf}
 use Rattle.notice.specs.Reader.{readingOf, definitionTableOf, spanTableOf}
 use Rattle.rendering.specs.declared.Rendering.{Rendering}

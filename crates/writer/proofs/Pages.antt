@@ -9,8 +9,9 @@ use Rattle.walk.specs.declared.Paragraph.the-variants as paragraph
 use Rattle.walk.specs.Walk.{paragraphsFrom, between, FirstParagraph, IsParagraph}
 use Rattle.walk.proofs.Whole.{all-paragraphs}
 use Rattle.note.specs.Reading.{spanRows}
-use Rattle.html.specs.Stored.{Writes}
-use Rattle.html.proofs.Writing.{Leads, leads, onward, done, room}
+use Rattle.buffer.specs.Stored.{Writes}
+use Rattle.buffer.specs.Stored.{Leads}
+use Rattle.buffer.proofs.Writing.{leads, onward, done, room}
 use Rattle.page.specs.Reading.{paragraphPage, pageBy, pageOf}
 use Rattle.page.proofs.Lengths.{page-most}
 use Rattle.writer.specs.declared.Pass.{Pass}

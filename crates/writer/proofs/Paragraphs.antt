@@ -9,9 +9,10 @@ use lib.Seq.{length-take-le, take-all}
 use Rattle.walk.specs.Walk.{between}
 use Rattle.walk.proofs.Steps.{cut}
 use Rattle.note.specs.Reading.{spanRows}
-use Rattle.html.specs.Page.{paragraphOpen, paragraphClose}
-use Rattle.html.specs.Stored.{pageMost, Writes}
-use Rattle.html.proofs.Writing.{Leads, leads, done, both}
+use Rattle.html.specs.Tags.{paragraphOpen, paragraphClose}
+use Rattle.buffer.specs.Stored.{pageMost, Writes}
+use Rattle.buffer.specs.Stored.{Leads}
+use Rattle.buffer.proofs.Writing.{leads, done, both}
 use Rattle.page.specs.Reading.{contentFrom, paragraphPage}
 use Rattle.writer.specs.declared.Pass.{Pass}
 use Rattle.writer.specs.Pass.{left, Cursors, Stands, Goes, Starts, Ends}

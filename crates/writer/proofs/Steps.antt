@@ -13,10 +13,11 @@ use Rattle.row.specs.Reading.{Within as Lies}
 use Rattle.inline.specs.Rows.{rowEnd}
 use Rattle.note.specs.Reading.{spanRows}
 use Rattle.note.proofs.Fits.{rows-fit}
-use Rattle.html.specs.Page.{linkClose}
-use Rattle.html.specs.Reading.{codeSpan, linkOpen}
-use Rattle.html.specs.Stored.{pageMost, Writes}
-use Rattle.html.proofs.Writing.{leads, onward, room}
+use Rattle.html.specs.Tags.{linkClose}
+use Rattle.code.specs.Reading.{codeElement}
+use Rattle.html.specs.Reading.{linkOpen}
+use Rattle.buffer.specs.Stored.{pageMost, Writes}
+use Rattle.buffer.proofs.Writing.{leads, onward, room}
 use Rattle.page.specs.Reading.{isCode, rowStart, textEnd, text, destination, title, Written}
 use Rattle.page.proofs.Turns.{turn}
 use Rattle.page.proofs.Extent.{row-some, link-text}
@@ -62,15 +63,15 @@ module _ {s : List ℕ} {e : ℕ} {r : List ℕ} (p : Pass) (q : Called s e r (p
     code-on : p .at < rowEnd r
     code-on = omega (arith, code-start, row-some s r (q .is-row))
 
-    code-left : left s e (p .at) ≡ codeSpan (bytesOf s (text r)) ++ left s e (rowEnd r)
+    code-left : left s e (p .at) ≡ codeElement (bytesOf s (text r)) ++ left s e (rowEnd r)
     code-left =
-        goes {w = record { size = rowEnd r - rowStart r; bytes = codeSpan (bytesOf s (text r)) }} (rw c refl) (rowEnd r) code-on (omega (arith, code-start))
+        goes {w = record { size = rowEnd r - rowStart r; bytes = codeElement (bytesOf s (text r)) }} (rw c refl) (rowEnd r) code-on (omega (arith, code-start))
 
-    pub code-room : Room s e p → p .size + length (codeSpan (bytesOf s (text r))) ≤ pageMost
-    code-room h = room (codeSpan (bytesOf s (text r))) (left s e (rowEnd r)) (leads {page = []}) code-left h
+    pub code-room : Room s e p → p .size + length (codeElement (bytesOf s (text r))) ≤ pageMost
+    code-room h = room (codeElement (bytesOf s (text r))) (left s e (rowEnd r)) (leads {page = []}) code-left h
 
-    pub code-passes : {page page′ : List ℕ} {size : ℕ} → Writes page (p .size) (codeSpan (bytesOf s (text r))) page′ size → Passes s e p page (moved p (rowEnd r) size) page′
-    code-passes x = passes (codeSpan (bytesOf s (text r))) (rowEnd r) code-on code-left x
+    pub code-passes : {page page′ : List ℕ} {size : ℕ} → Writes page (p .size) (codeElement (bytesOf s (text r))) page′ size → Passes s e p page (moved p (rowEnd r) size) page′
+    code-passes x = passes (codeElement (bytesOf s (text r))) (rowEnd r) code-on code-left x
 
   -- ---- the start of a link
   module _ (c : isCode r ≡ false) (st : p .at ≡ rowStart r) where

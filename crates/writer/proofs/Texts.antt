@@ -12,12 +12,13 @@ use Rattle.scan.specs.Reading.{past}
 use Rattle.scan.proofs.Test.{by}
 use Rattle.walk.proofs.Steps.{cut}
 use Rattle.note.specs.Reading.{spanRows}
-use Rattle.html.specs.Page.{escaped}
-use Rattle.html.specs.Reading.{backslash, asIs}
-use Rattle.html.specs.Stored.{pageMost, Writes}
-use Rattle.html.proofs.Writing.{Leads, leads, onward, room}
-use Rattle.html.proofs.Undone.{byte-inside, no-escape}
-use Rattle.html.proofs.AsIs.{no-backslash, run-within, each-passes, escaped-part}
+use Rattle.escaping.specs.Escaping.{escaped}
+use Rattle.escaping.specs.Reading.{backslash, asIs}
+use Rattle.buffer.specs.Stored.{pageMost, Writes}
+use Rattle.buffer.specs.Stored.{Leads}
+use Rattle.buffer.proofs.Writing.{leads, onward, room}
+use Rattle.escaping.proofs.Undone.{byte-inside, no-escape}
+use Rattle.escaping.proofs.AsIs.{no-backslash, run-within, each-passes, escaped-part}
 use Rattle.page.proofs.Turns.{turn-escape, turn-byte, turn-bytes}
 use Rattle.writer.specs.declared.Pass.{Pass}
 use Rattle.writer.specs.Pass.{left, Plain, Room, Passes}

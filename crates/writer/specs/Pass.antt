@@ -12,10 +12,11 @@ use Rattle.span.specs.Row.{rowAt}
 use Rattle.walk.specs.Walk.{between}
 use Rattle.inline.specs.Rows.{rowEnd}
 use Rattle.note.specs.Reading.{spanRows}
-use Rattle.html.specs.Page.{linkClose}
-use Rattle.html.specs.Reading.{codeSpan, linkOpen}
-use Rattle.html.specs.Stored.{pageMost, Writes}
-use Rattle.html.proofs.Writing.{Leads}
+use Rattle.html.specs.Tags.{linkClose}
+use Rattle.code.specs.Reading.{codeElement}
+use Rattle.html.specs.Reading.{linkOpen}
+use Rattle.buffer.specs.Stored.{pageMost, Writes}
+use Rattle.buffer.specs.Stored.{Leads}
 use Rattle.page.specs.Reading.{isCode, rowStart, textEnd, text, destination, title, Written, paragraphPage, from, here, Bare}
 use Rattle.writer.specs.declared.Pass.{Pass}
 use Rattle.writer.specs.Cursor.{waits, Behind}
@@ -43,7 +44,7 @@ module _ (s : List ℕ) (e : ℕ) where
   -- what the row r calls for at place i
   abbrev pub byRow : List ℕ → ℕ → Written
   byRow r i =
-      cond (isCode r) (record { size = rowEnd r - rowStart r; bytes = codeSpan (bytesOf s (text r)) })
+      cond (isCode r) (record { size = rowEnd r - rowStart r; bytes = codeElement (bytesOf s (text r)) })
       (cond (eqb i (rowStart r)) (record { size = 1; bytes = linkOpen (bytesOf s (destination r)) (bytesOf s (title r)) }) (record { size = rowEnd r - textEnd r; bytes = linkClose }))
 
   -- place i lies in the paragraph; the row r of the note starts there, or is a link whose text ends there, and what is written is what it calls for

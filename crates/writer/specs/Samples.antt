@@ -5,8 +5,11 @@ use mathlib.Core.List.{List, [], _∷_, _++_, flatMap}
 use mathlib.Core.Bool.{true, false}
 use Rattle.scan.specs.Ascii.{ascii}
 use Rattle.scan.specs.Reading.{run}
-use Rattle.html.specs.Page.{escaped, stays, hexDigit, hrefByte}
-use Rattle.html.specs.Reading.{undone, margin, titleAttribute, linkOpen}
+use Rattle.escaping.specs.Escaping.{escaped}
+use Rattle.href.specs.Href.{stays, hexDigit, hrefByte}
+use Rattle.escaping.specs.Reading.{undone}
+use Rattle.code.specs.Reading.{margin}
+use Rattle.html.specs.Reading.{titleAttribute, linkOpen}
 use Rattle.page.specs.Reading.{Written}
 use Rattle.writer.specs.Cursor.{waits}
 use Rattle.writer.specs.Pass.{nextPlace, rowPlace, byRow}

@@ -2,7 +2,7 @@
 ghost use mathlib.Core.Path.{_≡_};
 ghost use Prim.Native.Nat.{_≤_};
 ghost use Rattle.span.specs.Row.{numbers, wholeRows};
-ghost use Rattle.html.specs.Stored.{Writes};
+ghost use Rattle.buffer.specs.Stored.{Writes};
 ghost use Rattle.page.specs.Reading.{pageOf};
 ghost use Rattle.writer.specs.Spanned.{Spanned};
 ghost use Rattle.writer.specs.Cursor.{waits};
@@ -78,7 +78,7 @@ fn write_row(note: &[u8], end: usize, row: Span, p: Pass, page: &mut [u8]) -> Pa
     if row.kind == Span::CODE_SPAN {
         let from = row.text.start;
         let to = row.text.end;
-        w.size = html::put_code_span(page, p.size, &note[from..to]);
+        w.size = code::put_code_span(page, p.size, &note[from..to]);
         w.at = row.whole.end;
         return w;
     }
@@ -91,7 +91,7 @@ fn write_row(note: &[u8], end: usize, row: Span, p: Pass, page: &mut [u8]) -> Pa
         w.at = p.at + 1;
         return w;
     }
-    w.size = html::put(page, p.size, b"</a>");
+    w.size = buffer::put(page, p.size, b"</a>");
     w.at = row.whole.end;
     w
 }
@@ -107,14 +107,14 @@ fn write_text(note: &[u8], end: usize, stop: usize, p: Pass, page: &mut [u8]) ->
     let mut w = p;
     while w.at < stop {
         let at = w.at;
-        let to = html::as_is_end(plain, at, b'\\');
-        w.size = html::put(page, w.size, &plain[at..to]);
+        let to = escaping::as_is_end(plain, at, b'\\');
+        w.size = buffer::put(page, w.size, &plain[at..to]);
         w.at = to;
         if to == stop {
             return w;
         }
-        let j = html::past_backslash(text, to);
-        w.size = html::put_escaped(page, w.size, text[j]);
+        let j = escaping::past_backslash(text, to);
+        w.size = escaping::put_escaped(page, w.size, text[j]);
         w.at = j + 1;
     }
     w
@@ -162,11 +162,11 @@ fn write_paragraph(
     ensures { λ r. ⌜ Ends (now (note .entry)) end p (now (page .entry)) r (now (page .exit)) ⌝ }
 {
     let mut w = p;
-    w.size = html::put(page, p.size, b"<p>");
+    w.size = buffer::put(page, p.size, b"<p>");
     while w.at < end {
         w = write_next(note, spans, count, end, w, page);
     }
-    w.size = html::put(page, w.size, b"</p>\n");
+    w.size = buffer::put(page, w.size, b"</p>\n");
     w
 }
 

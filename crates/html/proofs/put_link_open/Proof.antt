@@ -2,7 +2,7 @@
 use native.Mathlib.Omega.{arith}
 use borrow.Author.Needs.{needs}
 use Rattle.html.specs.Reading.{linkOpen}
-use Rattle.html.proofs.Writing.{both}
+use Rattle.buffer.proofs.Writing.{both}
 use Rattle.html.proofs.Link.{open-length}
 use Rattle.html.proofs.put_link_open.Statement.{statement}
 use Rattle.html.proofs.put_link_open.Tie as tie

@@ -1,7 +1,7 @@
 -- Nothing, or the three parts one after the other.
 use native.Mathlib.Omega.{arith}
 use borrow.Author.Needs.{needs}
-use Rattle.html.proofs.Writing.{both, nothing}
+use Rattle.buffer.proofs.Writing.{both, nothing}
 use Rattle.html.proofs.Link.{no-title, some-title, some-title-length}
 use Rattle.html.proofs.put_title_attribute.Statement.{statement}
 use Rattle.html.proofs.put_title_attribute.Tie as tie

@@ -3,7 +3,7 @@ use Prim.Native.Nat.{_-_}
 use native.Mathlib.Omega.{arith}
 use mathlib.Core.Path.{_∙_}
 use borrow.Author.Needs.{needs}
-use Rattle.html.proofs.Writing.{same-length as same}
+use Rattle.buffer.proofs.Writing.{same-length as same}
 use Rattle.writer.proofs.Paragraphs.{Going, open-room, opened, stands, goes-on, close-room, closed}
 use Rattle.writer.proofs.write_paragraph.Statement.{statement}
 use Rattle.writer.proofs.write_paragraph.Tie as tie

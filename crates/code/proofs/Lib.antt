@@ -1,0 +1,6 @@
+pub mod Runs
+pub mod Margin
+pub mod Trimming
+pub mod Element
+pub mod Lengths
+pub mod Safety

@@ -1,0 +1,29 @@
+-- Code spans as they stand on the page, by computation.
+use mathlib.Core.Path.{_≡_, refl}
+use mathlib.Core.List.{List, [], _∷_, flatMap}
+use mathlib.Core.Bool.{true}
+use Rattle.scan.specs.Reading.{run}
+use Rattle.escaping.specs.Escaping.{escaped}
+use Rattle.escaping.specs.Samples.{Sample, _⇒_, hold}
+use Rattle.code.specs.Reading.{margin, codeElement}
+
+abbrev pub codes : List Sample
+codes =
+    ("foo" ⇒ "<code>foo</code>")
+    ∷ ("code\nspan" ⇒ "<code>code span</code>")
+    ∷ ("code\\\nspan" ⇒ "<code>code\\ span</code>")
+    ∷ ("](/uri)" ⇒ "<code>](/uri)</code>")
+    ∷ (" foo ` bar " ⇒ "<code>foo ` bar</code>")
+    ∷ ("  ``  " ⇒ "<code> `` </code>")
+    ∷ (" a" ⇒ "<code> a</code>")
+    ∷ ("a " ⇒ "<code>a </code>")
+    ∷ ("\nfoo\n" ⇒ "<code>foo</code>")
+    ∷ (" " ⇒ "<code> </code>")
+    ∷ ("\n " ⇒ "<code>  </code>")
+    ∷ ("  \na " ⇒ "<code>  a</code>")
+    ∷ ("\\*<&" ⇒ "<code>\\*&lt;&amp;</code>")
+    ∷ []
+
+pub codes-hold : hold codeElement codes ≡ true
+unfolding flatMap escaped run margin
+codes-hold = refl

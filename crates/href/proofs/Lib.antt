@@ -1,0 +1,4 @@
+pub mod Bytes
+pub mod Href
+pub mod Lengths
+pub mod Safety

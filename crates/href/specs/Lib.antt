@@ -1,0 +1,3 @@
+pub mod Href
+pub mod Reading
+pub mod Samples
