@@ -6,7 +6,7 @@ use mathlib.Core.List.{List}
 use mathlib.Core.Bool.{Bool, true, false, Bool·beq, not, _&&_, _||_}
 use borrow.Author.Tests.{eq-eqb, ne-eqb, eqb-true, eqb-false, leb-true, leb-false, ltb-true, not-true}
 use lib.ListN.{length, getD, List·getD-eq-default}
-use lib.Dec.{leb, ltb, eqb}
+use lib.Dec.{leb, eqb}
 use Rattle.scan.proofs.Test.{by, and-left, and-right, neither}
 use Rattle.scan.specs.Byte.{blank}
 use Rattle.scan.proofs.Scan.{peek-inside, past-stop}

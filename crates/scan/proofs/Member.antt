@@ -1,10 +1,9 @@
 -- What stands in a list: in its front, in its rest, in one of two parts.
-use Prim.Native.Nat.{ℕ, zero, suc}
+use Prim.Native.Nat.{zero, suc}
 use mathlib.Core.Path.{_≡_, sym, ap}
 use mathlib.Core.Logic.{_⊎_, inl, inr, ⊎-elim}
 use mathlib.Core.Option.{some, Option·some-injective, Option·none-ne-some}
 use mathlib.Core.List.{List, [], _∷_, _++_}
-use lib.ListN.{getElem?}
 use Rattle.scan.specs.Member.{In}
 
 module _ {A : Type 0} where

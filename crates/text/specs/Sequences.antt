@@ -29,7 +29,7 @@ sequenceLength b = lengthByOnes (leadingOnes b)
 abbrev pub starting : ℕ → ℕ
 starting b = cond (eqb (sequenceLength b) 0) 0 1
 
--- how many bytes of l start a sequence
+-- how many bytes of l start a sequence; of well-formed text that is the count of its "characters (code points)" (Claims `SequencesCounted`)
 unfoldable pub characters : List ℕ → ℕ
 characters [] = 0
 characters (b ∷ l) = starting b + characters l
