@@ -62,7 +62,7 @@ impl Lent {
     }
 }
 
-/// The second reader. It makes rows and page in one, whichever of the two is asked for.
+/// The second reader, rows and page.
 pub fn second(note: &[u8]) -> RenderAnswer {
     second::render(black_box(note), usize::MAX, usize::MAX, usize::MAX)
 }

@@ -1,8 +1,8 @@
-//! The answers that are known beforehand, against the proved library: the tests of `edges.rs`
+//! The answers that are known beforehand, against the proved library: the tests of `edges`
 //! (numbers counted by hand) and of `examples.rs` (the sources' pages) are run a second time, with
 //! the library's entries in the place of the second reader.
 
-// In the two files `host` means this one, so `host::second` is the module below.
+// In both `host` means this one, so `host::second` is the module below.
 extern crate host as package;
 extern crate self as host;
 
@@ -89,7 +89,7 @@ pub mod second {
     }
 }
 
-#[path = "edges.rs"]
+#[path = "edges/main.rs"]
 mod edges;
 #[path = "examples.rs"]
 mod examples;

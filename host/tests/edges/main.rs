@@ -1,0 +1,106 @@
+//! The edges of document 01 against the second reader. Rows and numbers were computed by hand from
+//! document 01; where the reader disagreed, they were counted again from the note.
+
+mod bench;
+mod blocks;
+mod brackets;
+mod lengths;
+mod markings;
+mod pages;
+mod refusals;
+
+use host::second::{self, DefinitionRow, ReadAnswer, RenderAnswer, ResolveAnswer, SpanRow};
+
+/// The reader with more lent than any note needs.
+fn read(note: &[u8]) -> ReadAnswer {
+    second::read(note, usize::MAX, usize::MAX)
+}
+
+/// The page writer with more lent than any note needs.
+fn render(note: &[u8]) -> RenderAnswer {
+    second::render(note, usize::MAX, usize::MAX, usize::MAX)
+}
+
+fn page(note: &str) -> String {
+    let answer = render(note.as_bytes());
+    assert_eq!(answer.number, 0, "{note:?}");
+    String::from_utf8(answer.page.unwrap()).unwrap()
+}
+
+fn spans(note: &str) -> Vec<SpanRow> {
+    let answer = read(note.as_bytes());
+    assert_eq!(answer.number, 0, "{note:?}");
+    answer.span_rows.unwrap()
+}
+
+fn definitions(note: &str) -> Vec<DefinitionRow> {
+    let answer = read(note.as_bytes());
+    assert_eq!(answer.number, 0, "{note:?}");
+    answer.definition_rows.unwrap()
+}
+
+/// A note, its rows and its page, number for number, from both entries.
+fn check(note: &str, definition_rows: &[DefinitionRow], span_rows: &[SpanRow], html: &str) {
+    let rendered = RenderAnswer {
+        number: 0,
+        value: 0,
+        definition_count: definition_rows.len(),
+        span_count: span_rows.len(),
+        page_length: html.len(),
+        definition_rows: Some(definition_rows.to_vec()),
+        span_rows: Some(span_rows.to_vec()),
+        page: Some(html.as_bytes().to_vec()),
+    };
+    // Exactly what is needed is lent.
+    let (definition_numbers, span_numbers) = (6 * definition_rows.len(), 10 * span_rows.len());
+    assert_eq!(
+        second::render(
+            note.as_bytes(),
+            definition_numbers,
+            span_numbers,
+            html.len()
+        ),
+        rendered,
+        "{note:?}"
+    );
+    let read = ReadAnswer {
+        number: 0,
+        value: 0,
+        definition_count: definition_rows.len(),
+        span_count: span_rows.len(),
+        definition_rows: rendered.definition_rows,
+        span_rows: rendered.span_rows,
+    };
+    assert_eq!(
+        second::read(note.as_bytes(), definition_numbers, span_numbers),
+        read,
+        "{note:?}"
+    );
+}
+
+fn refused(number: u32, value: usize) -> ReadAnswer {
+    ReadAnswer {
+        number,
+        value,
+        definition_count: 0,
+        span_count: 0,
+        definition_rows: None,
+        span_rows: None,
+    }
+}
+
+fn refused_enquiry(number: u32, value: usize) -> ResolveAnswer {
+    ResolveAnswer {
+        number,
+        value,
+        destination: 0..0,
+    }
+}
+
+fn found(start: usize, end: usize) -> ResolveAnswer {
+    ResolveAnswer {
+        number: 0,
+        value: start,
+        destination: start..end,
+    }
+}
