@@ -1,12 +1,10 @@
--- Members of lists.
-use Prim.Native.Nat.{ℕ, zero, suc, _+_}
+-- What stands in a list made by a function, and in two lists side by side.
+use Prim.Native.Nat.{ℕ, zero, suc}
 use mathlib.Core.Path.{_≡_, refl, sym, ap, subst}
-use mathlib.Core.Logic.{_⊎_, inl, inr}
 use mathlib.Core.Option.{some, Option·some-injective, Option·none-ne-some}
-use mathlib.Core.List.{List, [], _∷_, _++_, map, Forall₂, Forall₂·nil, Forall₂·cons, List·Memᴰ, List·Memᴰ·head, List·Memᴰ·tail}
-use lib.ListN.{length, getElem?}
+use mathlib.Core.List.{List, [], _∷_, map, Forall₂, Forall₂·nil, Forall₂·cons, List·Memᴰ, List·Memᴰ·head, List·Memᴰ·tail}
+use lib.ListN.{getElem?}
 use Rattle.scan.specs.Member.{In}
-use Rattle.marking.proofs.Lists.{at-left, at-right, at-split}
 
 pub record Mapped {A B : Type 0} (f : A → B) (xs : List A) (y : B) : Type 0 where
   pub from : A
@@ -32,20 +30,6 @@ module _ {A B : Type 0} (f : A → B) where
 
   pub mapped-in : (xs : List A) (x : A) → In x xs → In (f x) (map f xs)
   mapped-in xs x (k, e) = (k, mapped-at xs k x e)
-
-module _ {A : Type 0} (xs ys : List A) (z : A) where
-  pub in-either : In z (xs ++ ys) → In z xs ⊎ In z ys
-  in-either h = by (at-split xs ys (h .0) z (h .1))
-    where
-      by : (getElem? xs (h .0) ≡ some z) ⊎ ((d : ℕ) × (h .0 ≡ length xs + d) × (getElem? ys d ≡ some z)) → In z xs ⊎ In z ys
-      by (inl e) = inl (h .0, e)
-      by (inr t) = inr (t .0, t .2)
-
-  pub in-front : In z xs → In z (xs ++ ys)
-  in-front h = (h .0, at-left xs ys (h .0) z (h .1))
-
-  pub in-back : In z ys → In z (xs ++ ys)
-  in-back h = (length xs + h .0, at-right xs ys (h .0) z (h .1))
 
 pub pair-at : {A B : Type 0} {R : A → B → Type 0} {xs : List A} {ys : List B} → Forall₂ R xs ys → (k : ℕ) (x : A) (y : B) → getElem? xs k ≡ some x → getElem? ys k ≡ some y → R x y
 pair-at Forall₂·nil k x y e d = absurd (Option·none-ne-some x e)

@@ -10,6 +10,7 @@ use lib.ListN.{length, getElem?}
 use lib.Dec.{ltb}
 use Rattle.scan.proofs.Test.{by}
 use Rattle.scan.specs.Member.{In}
+use Rattle.scan.proofs.Member.{in-either}
 use Rattle.marking.proofs.Lists.{at-inside, at-split}
 use Rattle.marking.proofs.Sorted.{in-none, head-first}
 use Rattle.block.specs.Block.{Placed}
@@ -20,7 +21,6 @@ use Rattle.inline.specs.ReadingRows as paragraph
 use Rattle.inline.specs.Rows.{rowEnd, EndsIncrease}
 use Rattle.inline.proofs.SpanRows.{ends-increase}
 use Rattle.note.specs.Reading.{labels, rowsIn, spanRows}
-use Rattle.note.proofs.Members.{in-either}
 use Rattle.note.proofs.Spans.{row-ends}
 
 module _ (xs ys : List (List ℕ)) (r : EndsIncrease xs) (r′ : EndsIncrease ys) (cross : (x y : List ℕ) → In x xs → In y ys → rowEnd x < rowEnd y) where

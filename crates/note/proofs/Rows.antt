@@ -7,6 +7,7 @@ use mathlib.Core.List.{List, _∷_, Forall₂·nil, Forall₂·cons}
 use lib.ListN.{getElem?}
 use Rattle.marking.specs.Marking.{Marking}
 use Rattle.scan.specs.Member.{In}
+use Rattle.scan.proofs.Member.{in-either, in-front, in-back}
 use Rattle.marking.specs.Spans.{Span, SpanOf}
 use Rattle.marking.specs.ReadingSpans.{spans}
 use Rattle.marking.proofs.Sorted.{in-none}
@@ -22,7 +23,7 @@ use Rattle.inline.proofs.Demand3.{its-spans-are-read}
 use Rattle.inline.proofs.SpanRows.{row-read, row-iff}
 use Rattle.note.specs.Note.{MarkingOf, MarkingsAre, Marked, RowOf}
 use Rattle.note.specs.Reading.{labels, rowsIn, spanRows}
-use Rattle.note.proofs.Members.{in-mapped, mapped-in, in-either, in-front, in-back, pair-at}
+use Rattle.note.proofs.Members.{in-mapped, mapped-in, pair-at}
 
 module _ (s : List ℕ) (ds : List Definition) (row : List ℕ) where
   abbrev here : Placed → List (List ℕ)

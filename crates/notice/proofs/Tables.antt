@@ -2,7 +2,7 @@
 use Prim.Native.Nat.{ℕ, suc, _*_, _≤_}
 use native.Mathlib.Nat.{suc-mul}
 use native.Mathlib.Omega.{arith}
-use mathlib.Core.Path.{_≡_, refl, ap, _∙_}
+use mathlib.Core.Path.{_≡_, refl, sym, ap, _∙_}
 use mathlib.Core.List.{List, [], _∷_, _++_}
 use lib.ListN.{length, drop, length-append, length-drop}
 use lib.Seq.{take-all}
@@ -53,6 +53,7 @@ module _ (s : List ℕ) where
       record {
         rows = spanRows s;
         each-once = each;
+        no-other-rows = λ others r. sym (each-row-iff s others .1 r);
         refer = references-refer s (each .marked);
         fit = h;
         holds = e ∙ spans-filled-whole u h;

@@ -47,6 +47,7 @@ pub record SpanRows (s u u′ : List ℕ) : Type 0 where
   pub rows : List (List ℕ)
   -- those of the links and code spans in the markings, each once, no others
   pub each-once : EachRowOnce s rows
+  pub no-other-rows : (others : List (List ℕ)) → EachRowOnce s others → others ≡ rows
   -- rows of the kinds 3, 4 and 5: "In a lookup the search stops at the first equal label"
   pub refer : (row : List ℕ) → In row rows → spanTable.fullKind ≤ getD row 0 0 → RefersTo s (each-once .marked .definitions) row
   pub fit : length rows ≤ spanTable.wholeRows u
