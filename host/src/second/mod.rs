@@ -171,10 +171,9 @@ impl Reader {
         let Some(lent) = lent.page_bytes else {
             return Ok(0);
         };
-        let page = markings
-            .iter()
-            .flat_map(|each| each.html(note).into_bytes());
-        self.hand_over(page.collect(), lent, &mut left.page, number::PAGE_TOO_SHORT)
+        let paragraphs = markings.iter().map(|each| each.html(note));
+        let page = paragraphs.collect::<String>().into_bytes();
+        self.hand_over(page, lent, &mut left.page, number::PAGE_TOO_SHORT)
     }
 
     /// Leaves all rows, or bytes, where as many are lent as there are; otherwise the refusal, with
