@@ -31,7 +31,7 @@ use Rattle.enquiry.specs.declared.Enquiry.{Enquiry}
 use Rattle.enquiry.specs.declared.Enquiry.the-variants as enquiry
 use Rattle.enquiry.specs.Law.{NoLabel, GoodLabel, DefinitionsOf, NoDefinition, Defines, Answers}
 use Rattle.enquiry.specs.Law as law
-use Rattle.enquiry.specs.Reading.{nowhere, goodLabel, foundBy, past-end, answerAt, lookedUpIn, lookedUp, checkedEnquiry, enquiryOf}
+use Rattle.enquiry.specs.Reading.{nowhere, goodLabel, answerBy, past-end, answerAt, answerIn, answerFor, checkedEnquiry, enquiryOf}
 
 -- ---- the note
 pub good-note : (note : List ℕ) → (checkOf note ≡ checked.Good) ↔ GoodNote note
@@ -78,16 +78,16 @@ module _ (note : List ℕ) where
   defines-lies {d = d} m = definitions-lie note d (rw (no-others (m .all)) (Memᴰ·append-right (m .before) (List·Memᴰ·head refl)))
 
   module _ (label : List ℕ) where
-    search-none : NoDefinition note label → lookedUp note label ≡ enquiry.Undefined
-    unfolding lookedUp lookedUpIn
+    search-none : NoDefinition note label → answerFor note label ≡ enquiry.Undefined
+    unfolding answerFor answerIn
     search-none m = rw (no-others (m .all), none-equal (labelsOf note (m .definitions)) label .1 (m .none))
 
-    search-first : {d : Definition} → Defines note label d → lookedUp note label ≡ foundBy d
-    unfolding lookedUp lookedUpIn
+    search-first : {d : Definition} → Defines note label d → answerFor note label ≡ answerBy d
+    unfolding answerFor answerIn
     search-first {d} m =
         let ds = m .before ++ d ∷ m .after in
         let e : getD ds (length (m .before)) past-end ≡ d = rw add-zero at (getD-append-add (m .before) (d ∷ m .after) 0 past-end) in
-        rw (no-others (m .all), first-equal (labelsOf note ds) label (length (m .before)) .1 (m .first)) (ap foundBy e)
+        rw (no-others (m .all), first-equal (labelsOf note ds) label (length (m .before)) .1 (m .first)) (ap answerBy e)
 
     -- definition k, between those before it and those after it
     first-defines : (k : ℕ) → FirstEqual (labelsOf note (definitions note)) label k → Defines note label (getD (definitions note) k past-end)
@@ -105,12 +105,12 @@ module _ (note : List ℕ) where
 
     module _ (g : GoodNote note) (l : GoodLabel label) where
       searched : (f : Found) → firstMatch (labelsOf note (definitions note)) label ≡ f → Answers note label (answerAt (definitions note) f)
-      searched (found.At k) q = law.found (g, l, first-defines k (first-equal (labelsOf note (definitions note)) label k .0 q))
+      searched (found.At k) q = law.destination (g, l, first-defines k (first-equal (labelsOf note (definitions note)) label k .0 q))
       searched found.Nothing q =
           law.undefined (g, l, record { definitions = definitions note; all = its-definitions; none = none-equal (labelsOf note (definitions note)) label .0 q })
 
-      good-answer : Answers note label (lookedUp note label)
-      unfolding lookedUp lookedUpIn
+      good-answer : Answers note label (answerFor note label)
+      unfolding answerFor answerIn
       good-answer = searched (firstMatch (labelsOf note (definitions note)) label) refl
 
 -- ---- the answer
@@ -128,7 +128,7 @@ module _ (note label : List ℕ) where
   unfolding enquiryOf
   answers = by-check (checkOf note) refl
 
-  with-label : GoodNote note → GoodLabel label → enquiryOf note label ≡ lookedUp note label
+  with-label : GoodNote note → GoodLabel label → enquiryOf note label ≡ answerFor note label
   unfolding enquiryOf
   with-label g l = rw (good-note note .1 g, good-label label .1 l)
 
@@ -142,24 +142,24 @@ module _ (note label : List ℕ) where
   determined (law.bad {k} (h, u) b) = ap (checkedEnquiry note label) (check-bad note k .1 (h, b))
   determined (law.not-label (g, n)) = without-label g n
   determined (law.undefined (g, l, n)) = with-label g l ∙ search-none note label n
-  determined (law.found (g, l, m)) = with-label g l ∙ search-first note label m
+  determined (law.destination (g, l, m)) = with-label g l ∙ search-first note label m
 
   pub enquiry-iff : (e : Enquiry) → (enquiryOf note label ≡ e) ↔ Answers note label e
   enquiry-iff e = (λ q. subst (Answers note label) q answers, determined)
 
 -- ---- the part lies within the note
-place-within : {note label : List ℕ} {e : Enquiry} {a z : ℕ} → Answers note label e → e ≡ enquiry.Found a z → (a ≤ z) × (z ≤ length note)
+place-within : {note label : List ℕ} {e : Enquiry} {a z : ℕ} → Answers note label e → e ≡ enquiry.Destination a z → (a ≤ z) × (z ≤ length note)
 place-within (law.long w) q = let no : _≡_ {A = ℕ} 0 1 = cc in absurd (omega arith)
 place-within (law.bad w b) q = let no : _≡_ {A = ℕ} 0 1 = cc in absurd (omega arith)
 place-within (law.not-label w) q = let no : _≡_ {A = ℕ} 0 1 = cc in absurd (omega arith)
 place-within (law.undefined w) q = let no : _≡_ {A = ℕ} 0 1 = cc in absurd (omega arith)
-place-within {note} {a = a} {z = z} (law.found {d} (g, l, m)) q =
+place-within {note} {a = a} {z = z} (law.destination {d} (g, l, m)) q =
     let p = defines-lies note m .places in
     let s : d .destination .start ≡ a = cc in
     let t : d .destination .end ≡ z = cc in
     (omega (arith, p .destination), omega (arith, p .ends, p .inside))
 
-module _ (note label : List ℕ) {e : Enquiry} (answer : e ≡ enquiryOf note label) {a z : ℕ} (q : e ≡ enquiry.Found a z) where
+module _ (note label : List ℕ) {e : Enquiry} (answer : e ≡ enquiryOf note label) {a z : ℕ} (q : e ≡ enquiry.Destination a z) where
   pub part-ordered : a ≤ z
   part-ordered = place-within (answers note label) (sym answer ∙ q) .0
 

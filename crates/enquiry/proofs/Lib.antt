@@ -2,5 +2,5 @@ pub mod Steps
 pub mod Lookup
 pub mod Search
 pub mod Answers
-pub mod Given
+pub mod Demand1
 pub mod Promise

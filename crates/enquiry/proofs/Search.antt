@@ -1,36 +1,39 @@
 -- The turns of the search: no definition is left, the next one has an equal label, or it has another.
-use Prim.Native.Nat.{ℕ, _-_, _≤_, _<_}
+use Prim.Native.Nat.{ℕ, _-_, _<_, _^_}
 use native.Mathlib.Omega.{arith}
 use mathlib.Core.Path.{_≡_, refl, sym, ap, _∙_}
 use mathlib.Core.List.{List, [], List·Memᴰ, List·Memᴰ·head, List·Memᴰ·tail}
-use mathlib.Core.Bool.{Bool, true, false}
+use mathlib.Core.Bool.{true, false}
 use lib.ListN.{length}
-use Rattle.matching.specs.Reading.{matches}
+use Rattle.scan.specs.declared.Found.{Found}
+use Rattle.scan.specs.declared.Found.the-variants.{At, Nothing}
 use Rattle.row.specs.declared.Definition.{Definition}
-use Rattle.row.specs.First.{bytesOf}
+use Rattle.row.specs.Row.{width, Small, stored}
+use Rattle.row.specs.Reading.{rowOf, Fit}
+use Rattle.definition.specs.Reading.{definitions}
 use Rattle.walk.specs.declared.Cursor.{Cursor}
 use Rattle.walk.specs.declared.Next.{Next}
 use Rattle.walk.specs.declared.Next.the-variants as next
 use Rattle.walk.specs.Walk.{definitionsAfter, Within, FirstDefinition, IsNext}
 use Rattle.walk.proofs.Steps.{cursor}
 use Rattle.walk.proofs.Whole.{all-definitions}
-use Rattle.walk.proofs.Places.{Lies, definitions-lie}
+use Rattle.walk.proofs.Places.{definitions-lie, definitions-small}
 use Rattle.enquiry.specs.declared.Enquiry.the-variants.{Undefined}
-use Rattle.enquiry.specs.Reading.{foundBy, lookedUpIn, lookedUp}
-use Rattle.enquiry.proofs.Lookup.{none-left, equal-here, other-here}
+use Rattle.enquiry.specs.Reading.{answerBy, answerIn, answerFor}
+use Rattle.enquiry.proofs.Lookup.{none-left, equal-here, other-here, row-fit, row-found, row-missed}
 
 -- reading stands at c, and the definitions left there give what all of them do
 pub record Searching (note label : List ℕ) (c : Cursor) : Type 0 where
-  pub same : lookedUpIn note label (definitionsAfter note c) ≡ lookedUp note label
-  pub lie : (d : Definition) → List·Memᴰ d (definitionsAfter note c) → Lies note d
+  pub same : answerIn note label (definitionsAfter note c) ≡ answerFor note label
+  pub among : (d : Definition) → List·Memᴰ d (definitionsAfter note c) → List·Memᴰ d (definitions note)
   pub within : Within note c
 
 module _ (note label : List ℕ) where
   pub starts : Searching note label (cursor 0 0)
-  unfolding lookedUp
+  unfolding answerFor
   starts = record {
-    same = ap (lookedUpIn note label) (all-definitions note);
-    lie = λ d m. definitions-lie note d (rw (all-definitions note) at m);
+    same = ap (answerIn note label) (all-definitions note);
+    among = λ d m. rw (all-definitions note) at m;
     within = record { ordered = omega arith; inside = omega arith };
   }
 
@@ -39,35 +42,40 @@ module _ (note label : List ℕ) where
     stands = s .within
 
     module _ {x : Next} (n : IsNext note c x) where
-      pub none-equal : x ≡ next.End → Undefined ≡ lookedUp note label
+      pub none-equal : x ≡ next.End → Undefined ≡ answerFor note label
       none-equal e =
           let none : definitionsAfter note c ≡ [] = rw e at n in
-          sym (none-left note label) ∙ ap (lookedUpIn note label) (sym none) ∙ s .same
+          sym (none-left note label) ∙ ap (answerIn note label) (sym none) ∙ s .same
 
       module _ {d : Definition} {c′ : Cursor} (e : x ≡ next.Definition d c′) where
         here : FirstDefinition note c d c′
         here = rw e at n
 
-        lies : Lies note d
-        lies = s .lie d (rw (here .first) (List·Memᴰ·head refl))
+        in-note : List·Memᴰ d (definitions note)
+        in-note = s .among d (rw (here .first) (List·Memᴰ·head refl))
 
-        pub label-ordered : d .label .start ≤ d .label .end
-        label-ordered = lies .places .label
-
-        pub label-inside : d .label .end ≤ length note
-        label-inside = let p = lies .places in omega (arith, p .apart, p .destination, p .ends, p .inside)
+        pub small : length note < 2 ^ 32 → Small d
+        small h = definitions-small note h d in-note
 
         pub less : length note - c′ .at < length note - c .at
         less = omega (arith, here .onward, here .within .ordered, here .within .inside)
 
-        module _ {b : Bool} (tells : b ≡ matches (bytesOf note (d .label)) label) where
-          pub equal : b ≡ true → foundBy d ≡ lookedUp note label
-          equal t =
-              sym (equal-here note label d (definitionsAfter note c′) (sym tells ∙ t)) ∙ ap (lookedUpIn note label) (sym (here .first)) ∙ s .same
+        -- d is the one row of the table t
+        module _ (t₀ : List ℕ) {t : List ℕ} (size : length t₀ ≡ width) (row : t ≡ stored t₀ 0 d) where
+          pub fits : Fit note t 1
+          fits = row-fit note label d t₀ size row (definitions-lie note d in-note)
 
-          pub other : b ≡ false → Searching note label c′
-          other t = record {
-            same = sym (other-here note label d (definitionsAfter note c′) (sym tells ∙ t)) ∙ ap (lookedUpIn note label) (sym (here .first)) ∙ s .same;
-            lie = λ k m. s .lie k (rw (here .first) (List·Memᴰ·tail m));
-            within = here .within;
-          }
+          module _ {f : Found} (tells : f ≡ rowOf note t label 1) where
+            pub equal : {k : ℕ} → f ≡ At k → answerBy d ≡ answerFor note label
+            equal q =
+                sym (equal-here note label d (definitionsAfter note c′) (row-found note label d t₀ size row (sym tells ∙ q)))
+                ∙ ap (answerIn note label) (sym (here .first)) ∙ s .same
+
+            pub other : f ≡ Nothing → Searching note label c′
+            other q = record {
+              same =
+                  sym (other-here note label d (definitionsAfter note c′) (row-missed note label d t₀ size row (sym tells ∙ q)))
+                  ∙ ap (answerIn note label) (sym (here .first)) ∙ s .same;
+              among = λ k m. s .among k (rw (here .first) (List·Memᴰ·tail m));
+              within = here .within;
+            }

@@ -1,20 +1,22 @@
 -- What the code learns step by step, and the answer that it makes of that.
-use Prim.Native.Nat.{ℕ, _-_}
+use Prim.Native.Nat.{ℕ, _-_, _<_, _^_}
+use native.Mathlib.Omega.{arith}
 use mathlib.Core.Path.{_≡_, refl, sym, ap, _∙_}
 use mathlib.Core.List.{List, [], _∷_}
 use mathlib.Core.Bool.{Bool, true, false, not}
 use borrow.Author.Tests.{not-true, not-false}
-use lib.ListN.{take, drop}
+use lib.ListN.{length, take, drop}
 use Rattle.scan.specs.declared.Found.{Found}
 use Rattle.scan.specs.declared.Found.the-variants as found
 use Rattle.text.specs.declared.Checked.{Checked}
 use Rattle.text.specs.declared.Checked.the-variants as checked
 use Rattle.text.specs.Reading.{firstBad, checkOf}
+use Rattle.text.proofs.Refusals.{check-good}
 use Rattle.label.specs.Reading.{isLabel}
 use Rattle.enquiry.specs.declared.Enquiry.{Enquiry}
 use Rattle.enquiry.specs.declared.Enquiry.the-variants as enquiry
 use Rattle.enquiry.specs.Enquiry.{numberOf, valueOf, partOf, Address, past, placeOf}
-use Rattle.enquiry.specs.Reading.{nowhere, goodLabel, lookedUp, checkedEnquiry, enquiryOf}
+use Rattle.enquiry.specs.Reading.{nowhere, goodLabel, answerFor, checkedEnquiry, enquiryOf}
 use Rattle.enquiry.specs.Promise.{Resolved}
 
 -- ---- the label: p is whether it is one, f its first bad place
@@ -44,12 +46,15 @@ module _ (note label : List ℕ) {x : Checked} (check : x ≡ checkOf note) wher
   unfolding enquiryOf
   bad-note e = ap (checkedEnquiry note label) (sym e ∙ check)
 
+  pub short-note : x ≡ checked.Good → length note < 2 ^ 32
+  short-note e = omega (arith, check-good note .0 (sym check ∙ e) .0)
+
   module _ (good : x ≡ checked.Good) {p : Bool} (tells : p ≡ goodLabel label) where
     pub refused-label : not p ≡ true → enquiry.NotLabel ≡ enquiryOf note label
     unfolding enquiryOf
     refused-label t = rw (← check, good, ← tells, not-true p t)
 
-    pub searched : not p ≡ false → {e : Enquiry} → e ≡ lookedUp note label → e ≡ enquiryOf note label
+    pub searched : not p ≡ false → {e : Enquiry} → e ≡ answerFor note label → e ≡ enquiryOf note label
     unfolding enquiryOf
     searched t q = rw (← check, good, ← tells, not-false p t) q
 
@@ -64,5 +69,5 @@ module _ (note label : List ℕ) (at : Address) {e : Enquiry} (answer : e ≡ en
     label-kept = refl;
   }
 
-  pub handed : {a z : ℕ} → e ≡ enquiry.Found a z → Resolved note label at note label (n ∷ v ∷ []) (take (z - a) (drop a note)) (past at a)
+  pub handed : {a z : ℕ} → e ≡ enquiry.Destination a z → Resolved note label at note label (n ∷ v ∷ []) (take (z - a) (drop a note)) (past at a)
   handed f = resolved (rw f) (rw f)

@@ -3,11 +3,11 @@ use Prim.Native.Nat.{ℕ, _+_, _-_}
 use mathlib.Core.List.{List, []}
 use lib.ListN.{take, drop}
 use Rattle.enquiry.specs.declared.Enquiry.{Enquiry}
-use Rattle.enquiry.specs.declared.Enquiry.the-variants.{Found, Long, Bad, NotLabel, Undefined}
+use Rattle.enquiry.specs.declared.Enquiry.the-variants.{Destination, Long, Bad, NotLabel, Undefined}
 
 -- "the answer number, 0 or the refusal's"
 abbrev pub numberOf : Enquiry → ℕ
-numberOf (Found start end) = 0
+numberOf (Destination start end) = 0
 numberOf (Long size) = 1
 numberOf (Bad place) = 2
 numberOf NotLabel = 8
@@ -15,7 +15,7 @@ numberOf Undefined = 7
 
 -- "its start or the table's value": the part's start; "its length"; "where reading from the start first meets no good character"; 0
 abbrev pub valueOf : Enquiry → ℕ
-valueOf (Found start end) = start
+valueOf (Destination start end) = start
 valueOf (Long size) = size
 valueOf (Bad place) = place
 valueOf NotLabel = 0
@@ -23,7 +23,7 @@ valueOf Undefined = 0
 
 -- "handed back as a part of the note itself, escapes undone nowhere"; "On a refusal the part is empty"
 abbrev pub partOf : List ℕ → Enquiry → List ℕ
-partOf note (Found start end) = take (end - start) (drop start note)
+partOf note (Destination start end) = take (end - start) (drop start note)
 partOf note (Long size) = []
 partOf note (Bad place) = []
 partOf note NotLabel = []
@@ -39,7 +39,7 @@ past a n = (a .0, n + a .1)
 
 -- where the part lies, if the note lies at a: the destination's own place; on a refusal the note's start
 abbrev pub placeOf : Address → Enquiry → Address
-placeOf a (Found start end) = past a start
+placeOf a (Destination start end) = past a start
 placeOf a (Long size) = a
 placeOf a (Bad place) = a
 placeOf a NotLabel = a

@@ -10,7 +10,7 @@ use Rattle.row.specs.declared.Definition.{Definition}
 use Rattle.row.specs.First.{labelsOf, FirstEqual, NoneEqual}
 use Rattle.definition.specs.Note.{NoteIs}
 use Rattle.enquiry.specs.declared.Enquiry.{Enquiry}
-use Rattle.enquiry.specs.declared.Enquiry.the-variants.{Found, Long, Bad, NotLabel, Undefined}
+use Rattle.enquiry.specs.declared.Enquiry.the-variants.{Destination, Long, Bad, NotLabel, Undefined}
 
 -- 8: "the bytes given, set between `[` and `]`, are not exactly one label, or hold byte 0 or 13 or ill-formed UTF-8"
 abbrev pub NoLabel : List ℕ → Type 0
@@ -65,4 +65,4 @@ pub data Answers (note label : List ℕ) : Enquiry → Type 0 where
   not-label : Due8 note label → Answers note label NotLabel
   undefined : Due7 note label → Answers note label Undefined
   -- with the destination's start and end
-  found : {d : Definition} → Due0 note label d → Answers note label (Found (d .destination .start) (d .destination .end))
+  destination : {d : Definition} → Due0 note label d → Answers note label (Destination (d .destination .start) (d .destination .end))

@@ -27,8 +27,8 @@ unfoldable pub goodLabel : List ℕ → Bool
 goodLabel label = isLabel label && nowhere (firstBad label 0)
 
 -- the answer that d gives
-abbrev pub foundBy : Definition → Enquiry
-foundBy d = enquiry.Found (d .destination .start) (d .destination .end)
+abbrev pub answerBy : Definition → Enquiry
+answerBy d = enquiry.Destination (d .destination .start) (d .destination .end)
 
 -- stands for what lies past the end of a list of definitions
 abbrev pub past-end : Definition
@@ -36,19 +36,19 @@ past-end = definition absent absent absent
 
 -- the destination of definition k of these
 abbrev pub answerAt : List Definition → Found → Enquiry
-answerAt ds (found.At k) = foundBy (getD ds k past-end)
+answerAt ds (found.At k) = answerBy (getD ds k past-end)
 answerAt ds found.Nothing = enquiry.Undefined
 
 -- what the first of these definitions with an equal label gives
-unfoldable pub lookedUpIn : List ℕ → List ℕ → List Definition → Enquiry
-lookedUpIn note label ds = answerAt ds (firstMatch (labelsOf note ds) label)
+unfoldable pub answerIn : List ℕ → List ℕ → List Definition → Enquiry
+answerIn note label ds = answerAt ds (firstMatch (labelsOf note ds) label)
 
-unfoldable pub lookedUp : List ℕ → List ℕ → Enquiry
-lookedUp note label = lookedUpIn note label (definitions note)
+unfoldable pub answerFor : List ℕ → List ℕ → Enquiry
+answerFor note label = answerIn note label (definitions note)
 
 -- the answer for a good note, by whether the label is good
 abbrev pub labelledEnquiry : List ℕ → List ℕ → Bool → Enquiry
-labelledEnquiry note label true = lookedUp note label
+labelledEnquiry note label true = answerFor note label
 labelledEnquiry note label false = enquiry.NotLabel
 
 -- the answer by what the note's check tells

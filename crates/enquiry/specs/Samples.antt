@@ -17,9 +17,9 @@ use Rattle.matching.specs.Reading.{spaced, formOf, compared, equals, matches}
 use Rattle.row.specs.Reading.{matchFrom}
 use Rattle.definition.specs.Reading as definition
 use Rattle.enquiry.specs.declared.Enquiry.{Enquiry}
-use Rattle.enquiry.specs.declared.Enquiry.the-variants.{Found, Long, Bad, NotLabel, Undefined}
+use Rattle.enquiry.specs.declared.Enquiry.the-variants.{Destination, Long, Bad, NotLabel, Undefined}
 use Rattle.enquiry.specs.Enquiry.{partOf}
-use Rattle.enquiry.specs.Reading.{goodLabel, lookedUpIn, lookedUp, enquiryOf}
+use Rattle.enquiry.specs.Reading.{goodLabel, answerIn, answerFor, enquiryOf}
 
 pub record Sample : Type 0 where
   pub note : List ℕ
@@ -36,8 +36,8 @@ note = ascii "[max]: /a\\*b \"June\"\n[MAX]: /c\n\n [x\ny]: <>\n\n[p]"
 
 abbrev pub samples : List Sample
 samples =
-    sample note (ascii "Max") (Found 7 12) "/a\\*b"
-    ∷ sample note (ascii " x  y\n\n") (Found 40 40) ""
+    sample note (ascii "Max") (Destination 7 12) "/a\\*b"
+    ∷ sample note (ascii " x  y\n\n") (Destination 40 40) ""
     ∷ sample note (ascii "p") Undefined ""
     ∷ sample [] (ascii "p") Undefined ""
     ∷ sample note [] NotLabel ""
@@ -63,5 +63,5 @@ unfolding scan run past leap closingStep closing onesFrom leadingOnes sequenceLe
     inky fitsAfter fits labelEnd unclosed isLabel spaceFrom depthAfter rawStep rawRun judged destinationOf closer titleOf
     blankLine lineLength blockRest blockLength partLength blockHere blocks fold spaced formOf compared equals matches matchFrom
     definition.lineAfter definition.titleAfter definition.endingAfter definition.afterLabel definition.afterIndent definition.definitionAt definition.takingFrom
-    definition.definitionsFrom definition.definitionsOf definition.definitionsIn definition.definitions goodLabel lookedUpIn lookedUp enquiryOf
+    definition.definitionsFrom definition.definitionsOf definition.definitionsIn definition.definitions goodLabel answerIn answerFor enquiryOf
 samples-hold = refl

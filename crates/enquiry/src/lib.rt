@@ -1,8 +1,11 @@
 // The enquiry: the destination that a note gives to a label.
 ghost use mathlib.Core.Path.{_≡_};
+ghost use Prim.Native.Nat.{_<_, _^_};
+ghost use lib.ListN.{length};
 ghost use Rattle.enquiry.specs.Enquiry.{numberOf, valueOf};
-ghost use Rattle.enquiry.specs.Reading.{goodLabel, lookedUp, enquiryOf};
+ghost use Rattle.enquiry.specs.Reading.{goodLabel, answerFor, enquiryOf};
 ghost use Rattle.enquiry.specs.Promise.{Resolved};
+use row::Definition;
 use scan::Found;
 use text::Checked;
 use walk::Cursor;
@@ -10,7 +13,7 @@ use walk::Next;
 
 // The answer: the destination's start and end, or a refusal with what is returned with it.
 pub enum Enquiry {
-    Found(usize, usize),
+    Destination(usize, usize),
     Long(usize),
     Bad(usize),
     NotLabel,
@@ -22,7 +25,7 @@ pub fn number(e: Enquiry) -> u64
     ensures { λ r. ⌜ r ≡ numberOf e ⌝ }
 {
     match e {
-        Enquiry::Found(_, _) => 0,
+        Enquiry::Destination(_, _) => 0,
         Enquiry::Long(_) => 1,
         Enquiry::Bad(_) => 2,
         Enquiry::NotLabel => 8,
@@ -35,7 +38,7 @@ pub fn value(e: Enquiry) -> u64
     ensures { λ r. ⌜ r ≡ valueOf e ⌝ }
 {
     match e {
-        Enquiry::Found(start, _) => start as u64,
+        Enquiry::Destination(start, _) => start as u64,
         Enquiry::Long(length) => length as u64,
         Enquiry::Bad(place) => place as u64,
         Enquiry::NotLabel => 0,
@@ -56,21 +59,24 @@ fn good_label(label: &[u8]) -> bool
     }
 }
 
-// The destination of the note's first definition that has an equal label.
+// The destination of the note's first definition that has an equal label. Each definition makes a table of one row, which is looked
+// up: `row::lookup` has the loop over the label.
 fn find(note: &[u8], label: &[u8]) -> Enquiry
-    ensures { λ r. ⌜ r ≡ lookedUp (now (note .entry)) (now (label .entry)) ⌝ }
+    requires { ⌜ length (now note) < 2 ^ 32 ⌝ }
+    ensures { λ r. ⌜ r ≡ answerFor (now (note .entry)) (now (label .entry)) ⌝ }
 {
     let mut c = Cursor { at: 0, end: 0 };
-    loop {
+    'definitions: loop {
         let Next::Definition(d, after) = walk::next_definition(note, c) else {
-            return Enquiry::Undefined;
+            break 'definitions Enquiry::Undefined;
         };
-        let start = d.label.start;
-        let end = d.label.end;
-        if matching::same_label(&note[start..end], label) {
-            return Enquiry::Found(d.destination.start, d.destination.end);
-        }
-        c = after;
+        let mut row = [0; Definition::WIDTH];
+        row::store(&mut row, 0, d);
+        let Found::At(_) = row::lookup(note, &row, 1, label) else {
+            c = after;
+            continue 'definitions;
+        };
+        break 'definitions Enquiry::Destination(d.destination.start, d.destination.end);
     }
 }
 
@@ -96,7 +102,7 @@ pub fn resolve<'a>(note: &'a [u8], label: &[u8], answer: &mut [u64; 2]) -> &'a [
 {
     let e = enquire(note, label);
     *answer = [number(e), value(e)];
-    let Enquiry::Found(start, end) = e else {
+    let Enquiry::Destination(start, end) = e else {
         return &note[..0];
     };
     &note[start..end]

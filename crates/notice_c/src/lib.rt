@@ -1,9 +1,8 @@
 // The entries for callers in C and Rust. A slice is a pointer and a length there, the answer a pointer to its numbers (include/notice.h).
 ghost use Rattle.notice_c.specs.Read.{ReadPromise};
 ghost use Rattle.notice_c.specs.Render.{RenderPromise};
-ghost use Rattle.notice_c.specs.Resolve.{ResolvePromise, destinationStart, destinationEnd};
+ghost use Rattle.notice_c.specs.Resolve.{ResolvePromise, startBy};
 ghost use mathlib.Core.Path.{_≡_};
-use enquiry::Enquiry;
 
 // Reads a note: fills the two tables that are lent, or refuses. The answer's number is returned; its value and the counts of
 // definitions and spans are stored.
@@ -47,30 +46,14 @@ pub extern "C" fn notice_render(
     number as u32
 }
 
-// Where the destination starts, or 0.
-fn destination_start(e: Enquiry) -> u64
-    ensures { λ r. ⌜ r ≡ destinationStart e ⌝ }
+// Where the part starts that the enquiry hands back beside its answer's number and value; 0 on a refusal.
+fn part_start(number: u64, value: u64) -> u64
+    ensures { λ r. ⌜ r ≡ startBy number value ⌝ }
 {
-    match e {
-        Enquiry::Found(start, _) => start as u64,
-        Enquiry::Long(_) => 0,
-        Enquiry::Bad(_) => 0,
-        Enquiry::NotLabel => 0,
-        Enquiry::Undefined => 0,
+    if number == 0 {
+        return value;
     }
-}
-
-// Where the destination ends, or 0.
-fn destination_end(e: Enquiry) -> u64
-    ensures { λ r. ⌜ r ≡ destinationEnd e ⌝ }
-{
-    match e {
-        Enquiry::Found(_, end) => end as u64,
-        Enquiry::Long(_) => 0,
-        Enquiry::Bad(_) => 0,
-        Enquiry::NotLabel => 0,
-        Enquiry::Undefined => 0,
-    }
+    0
 }
 
 // The destination that the note gives to a label. The answer's number is returned; its value and the destination's start and
@@ -79,11 +62,12 @@ fn destination_end(e: Enquiry) -> u64
 pub extern "C" fn notice_resolve(note: &[u8], label: &[u8], answer: &mut [u64; 3]) -> u32
     ensures { λ r. ⌜ ResolvePromise (now (note .entry)) (now (label .entry)) r (now (note .exit)) (now (label .exit)) (now (answer .exit)) ⌝ }
 {
-    let e = enquiry::enquire(note, label);
-    let number = enquiry::number(e);
-    let value = enquiry::value(e);
-    let start = destination_start(e);
-    let end = destination_end(e);
+    let mut numbers = [0; 2];
+    let part = enquiry::resolve(note, label, &mut numbers);
+    let number = numbers[0];
+    let value = numbers[1];
+    let start = part_start(number, value);
+    let end = start + part.len() as u64;
     *answer = [value, start, end];
     number as u32
 }

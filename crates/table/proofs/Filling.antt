@@ -8,13 +8,13 @@ use Rattle.row.specs.declared.Definition.{Definition}
 use Rattle.row.specs.Row.{Small, filled, stored}
 use Rattle.row.proofs.Filled.{filled-none, length-filled, store-next}
 use Rattle.definition.specs.Reading.{definitions}
-use Rattle.definition.proofs.NotePlaces.{definitions-inside}
 use Rattle.walk.specs.declared.Cursor.{Cursor}
 use Rattle.walk.specs.declared.Next.{Next}
 use Rattle.walk.specs.declared.Next.the-variants as next
 use Rattle.walk.specs.Walk.{definitionsAfter, Within, FirstDefinition, IsNext}
 use Rattle.walk.proofs.Steps.{cursor}
 use Rattle.walk.proofs.Whole.{all-definitions}
+use Rattle.walk.proofs.Places.{definitions-small}
 
 -- reading stands at c, and k definitions are passed; the table t₀ has become t
 pub record Filling (note t₀ t : List ℕ) (k : ℕ) (c : Cursor) : Type 0 where
@@ -61,13 +61,7 @@ module _ (note t₀ : List ℕ) where
       in-note = rw (f .whole, here .first) (Memᴰ·append-right (f .passed) (List·Memᴰ·head refl))
 
       pub small : length note < 2 ^ 32 → Small d
-      small h =
-          let m = definitions-inside note d in-note in
-          record {
-            label = record { start = omega (arith, m .label-start); end = omega (arith, m .label-end) };
-            destination = record { start = omega (arith, m .destination-start); end = omega (arith, m .destination-end) };
-            title = record { start = omega (arith, m .title-start); end = omega (arith, m .title-end) };
-          }
+      small h = definitions-small note h d in-note
 
       pub count-fits : k < length note
       count-fits = omega (arith, f .bound, here .onward, here .within .ordered, here .within .inside)

@@ -1,5 +1,5 @@
--- The definitions of a note lie within it, each with its parts in order.
-use Prim.Native.Nat.{ℕ, zero, suc, _+_, _≤_}
+-- The definitions of a note lie within it, each with its parts in order, and make rows of 32-bit numbers.
+use Prim.Native.Nat.{ℕ, zero, suc, _+_, _≤_, _<_, _^_}
 use native.Mathlib.Omega.{arith}
 use mathlib.Core.Path.{_≡_, sym, subst}
 use mathlib.Core.List.{List, List·Memᴰ, List·Memᴰ·cases-cons, List·Memᴰ·append-cases, List·Memᴰ·not-nil}
@@ -9,9 +9,11 @@ use lib.Seq.{length-take-le}
 use Rattle.block.specs.Block.{Placed}
 use Rattle.block.proofs.Places as block
 use Rattle.row.specs.declared.Definition.{Definition}
+use Rattle.row.specs.Row.{Small}
 use Rattle.definition.specs.Reading.{definitionAt, takingFrom, definitionsFrom, definitionsOf, definitionsIn, definitions}
 use Rattle.definition.specs.declared.Entry.the-variants.{Defined}
 use Rattle.definition.proofs.Places.{DefinitionPlaces, definition-places}
+use Rattle.definition.proofs.NotePlaces.{definitions-inside}
 use Rattle.definition.proofs.Takings.{by-entry, from-none, from-one}
 
 -- d starts at some place of s and ends before another
@@ -60,3 +62,12 @@ module _ (s : List ℕ) where
   pub definitions-lie : (d : Definition) → List·Memᴰ d (definitions s) → Lies s d
   unfolding definitions
   definitions-lie = all-lie (block.blocks-in-order s)
+
+  pub definitions-small : length s < 2 ^ 32 → (d : Definition) → List·Memᴰ d (definitions s) → Small d
+  definitions-small h d m =
+      let p = definitions-inside s d m in
+      record {
+        label = record { start = omega (arith, p .label-start); end = omega (arith, p .label-end) };
+        destination = record { start = omega (arith, p .destination-start); end = omega (arith, p .destination-end) };
+        title = record { start = omega (arith, p .title-start); end = omega (arith, p .title-end) };
+      }

@@ -2,69 +2,77 @@
 use borrow.Author.Needs.{needs}
 use Prim.Native.Nat.{_-_}
 use lib.ListN.{length}
-use Rattle.enquiry.proofs.Search.{Searching, starts, stands, none-equal, label-ordered, label-inside, less, equal, other}
+use Rattle.enquiry.proofs.Search.{Searching, starts, stands, none-equal, small, less, fits, equal, other}
 use Rattle.enquiry.proofs.find.Statement.{statement}
 use Rattle.enquiry.proofs.find.Tie as tie
 
-ruleset turns = (starts, stands, none-equal, label-ordered, label-inside, less, equal, other, needs)
+ruleset turns = (starts, stands, none-equal, small, less, fits, equal, other, needs)
 
-abbrev Inv-loop : tie.InvT-loop
-Inv-loop note label c₀ c = Searching note label c
+abbrev Inv-definitions : tie.InvT-definitions
+Inv-definitions note label c₀ c = Searching note label c
 
-abbrev μ-loop : tie.MeasureT-loop
-μ-loop note label c₀ c = length note - c .at
+abbrev μ-definitions : tie.MeasureT-definitions
+μ-definitions note label c₀ c = length note - c .at
 
-loop-holds : tie.Need-loop-holds Inv-loop μ-loop
-loop-holds c = search turns
+definitions-holds : tie.Need-definitions-holds Inv-definitions μ-definitions
+definitions-holds c = search turns
 
-next-definition-requires : tie.Need-next-definition-requires Inv-loop μ-loop
+next-definition-requires : tie.Need-next-definition-requires Inv-definitions μ-definitions
 next-definition-requires c κs = search turns
 
-enum-known-d : tie.Need-enum-known-d Inv-loop μ-loop
+enum-known-d : tie.Need-enum-known-d Inv-definitions μ-definitions
 enum-known-d c = search turns
 
-enum-told : tie.Need-enum-told Inv-loop μ-loop
+enum-told : tie.Need-enum-told Inv-definitions μ-definitions
 enum-told c = search turns
 
-returns : tie.Need-returns Inv-loop μ-loop
+slice-aggregate-store : tie.Need-slice-aggregate-store Inv-definitions μ-definitions
+slice-aggregate-store c = search turns
+
+store-requires : tie.Need-store-requires Inv-definitions μ-definitions
+store-requires c κs = search turns
+
+slice-aggregate-lookup : tie.Need-slice-aggregate-lookup Inv-definitions μ-definitions
+slice-aggregate-lookup c = search turns
+
+lookup-requires : tie.Need-lookup-requires Inv-definitions μ-definitions
+lookup-requires c κs = search turns
+
+enum-told-2 : tie.Need-enum-told-2 Inv-definitions μ-definitions
+enum-told-2 c = search turns
+
+enum-told-3 : tie.Need-enum-told-3 Inv-definitions μ-definitions
+enum-told-3 c = search turns
+
+definitions-less : tie.Need-definitions-less Inv-definitions μ-definitions
+definitions-less c = search turns
+
+definitions-again : tie.Need-definitions-again Inv-definitions μ-definitions
+definitions-again c = search turns
+
+returns : tie.Need-returns Inv-definitions μ-definitions
 returns c = search turns
 
-sub-same-label : tie.Need-sub-same-label Inv-loop μ-loop
-sub-same-label c = search turns
-
-part-same-label-start : tie.Need-part-same-label-start Inv-loop μ-loop
-part-same-label-start c = search turns
-
-part-same-label-end : tie.Need-part-same-label-end Inv-loop μ-loop
-part-same-label-end c = search turns
-
-same-label-requires : tie.Need-same-label-requires Inv-loop μ-loop
-same-label-requires c κs = search turns
-
-returns-2 : tie.Need-returns-2 Inv-loop μ-loop
+returns-2 : tie.Need-returns-2 Inv-definitions μ-definitions
 returns-2 c = search turns
-
-loop-less : tie.Need-loop-less Inv-loop μ-loop
-loop-less c = search turns
-
-loop-again : tie.Need-loop-again Inv-loop μ-loop
-loop-again c = search turns
 
 pub find-spec : {M : Type 1} → statement M
 find-spec =
     tie.close
     (tie.spec
-    Inv-loop
-    μ-loop
-    loop-holds
+    Inv-definitions
+    μ-definitions
+    definitions-holds
     next-definition-requires
     enum-known-d
     enum-told
+    slice-aggregate-store
+    store-requires
+    slice-aggregate-lookup
+    lookup-requires
+    enum-told-2
+    enum-told-3
+    definitions-less
+    definitions-again
     returns
-    sub-same-label
-    part-same-label-start
-    part-same-label-end
-    same-label-requires
-    returns-2
-    loop-less
-    loop-again)
+    returns-2)

@@ -6,7 +6,7 @@ use mathlib.Core.List.{List, [], _∷_}
 use types.Run.{OneOf, miss}
 use denote.Enum.Declared.{tagOf}
 use Rattle.enquiry.specs.declared.Enquiry.{Enquiry}
-use Rattle.enquiry.specs.declared.Enquiry.the-variants.{Found, Long, Bad, NotLabel, Undefined}
+use Rattle.enquiry.specs.declared.Enquiry.the-variants.{Destination, Long, Bad, NotLabel, Undefined}
 use Rattle.enquiry.specs.Enquiry.{partOf, Address, placeOf}
 use Rattle.enquiry.proofs.Enquiry.{the-type}
 use Rattle.enquiry.proofs.Steps.{resolved, handed}
@@ -18,7 +18,7 @@ ruleset ways = (handed, part-ordered, part-inside, needs)
 
 -- the refusals are the cases 1 to 4 of the answer, counted from 0; each hands back an empty part
 empty : (note : List ℕ) (at : Address) (e : Enquiry) → OneOf (1 ∷ 2 ∷ 3 ∷ 4 ∷ []) (tagOf the-type e) → ([] ≡ partOf note e) × (at ≡ placeOf at e)
-empty note at (Found a z) h = absurd (miss (1 ∷ 2 ∷ 3 ∷ 4 ∷ []) 0 tt h)
+empty note at (Destination a z) h = absurd (miss (1 ∷ 2 ∷ 3 ∷ 4 ∷ []) 0 tt h)
 empty note at (Long n) h = (refl, refl)
 empty note at (Bad k) h = (refl, refl)
 empty note at NotLabel h = (refl, refl)
