@@ -15,7 +15,7 @@ use Rattle.note.proofs.EachRow.{each-row-iff}
 use Rattle.buffer.specs.Stored.{Writes}
 use Rattle.buffer.proofs.Writing.{measured}
 use Rattle.page.specs.Reading.{pageOf}
-use Rattle.writer.specs.Spanned.{Spanned}
+use Rattle.cursor.specs.Spanned.{Spanned}
 use Rattle.notice.specs.declared.Reading.{Reading}
 use Rattle.notice.specs.declared.Reading.the-variants as reader-variants
 use Rattle.notice.specs.Reader as reader

@@ -14,13 +14,13 @@ use Rattle.span.specs.Row.{rowAt}
 use Rattle.note.specs.Reading.{spanRows}
 use Rattle.page.specs.Reading.{isCode, rowStart, textEnd, firstRow, codeStarts, linkStarts, linkCloses, writtenBy}
 use Rattle.page.proofs.Extent.{link-text}
-use Rattle.writer.specs.Cursor.{waits, Next}
-use Rattle.writer.specs.Spanned.{Spanned}
+use Rattle.cursor.specs.Cursor.{waits, Next, Finds, nextPlace, rowPlace}
+use Rattle.cursor.specs.Spanned.{Spanned}
 use Rattle.writer.specs.declared.Pass.{Pass}
-use Rattle.writer.specs.Pass.{Finds, nextPlace, rowPlace, Called, Plain, Passes, Stands, Goes}
-use Rattle.writer.proofs.Cursors.{code-waits, link-waits, code-at-cursor, opening-at-cursor, closing-at-cursor}
-use Rattle.writer.proofs.Found.{next-found, waiting, next-later, finds, finds-none}
-use Rattle.writer.proofs.Rows.{at-start, at-text-end, place-top, place-low, place-here, place-from}
+use Rattle.writer.specs.Pass.{Called, Plain, Passes, Stands, Goes}
+use Rattle.cursor.proofs.Cursors.{code-waits, link-waits, code-at-cursor, opening-at-cursor, closing-at-cursor}
+use Rattle.cursor.proofs.Found.{next-found, waiting, next-later, finds, finds-none}
+use Rattle.cursor.proofs.Rows.{at-start, at-text-end, place-top, place-low, place-here, place-from}
 
 module _ {s u : List ℕ} {count : ℕ} (d : Spanned s u count) where
   -- ---- the next code span

@@ -1,7 +1,4 @@
--- the rows of the table, and where they stand among the note's
-pub mod Rows
-pub mod Cursors
-pub mod Found
+-- what the rows at the cursors call for
 pub mod Here
 -- the steps of the pass
 pub mod Steps

@@ -15,7 +15,7 @@ use Rattle.buffer.proofs.Writing.{leads, onward, done, room}
 use Rattle.page.specs.Reading.{paragraphPage, pageBy, pageOf}
 use Rattle.page.proofs.Lengths.{page-most}
 use Rattle.writer.specs.declared.Pass.{Pass}
-use Rattle.writer.specs.Spanned.{Spanned}
+use Rattle.cursor.specs.Spanned.{Spanned}
 use Rattle.writer.specs.Pass.{Cursors, Starts, Ends}
 use Rattle.writer.proofs.Paragraphs.{cursors-later}
 

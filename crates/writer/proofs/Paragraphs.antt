@@ -16,7 +16,7 @@ use Rattle.buffer.proofs.Writing.{leads, done, both}
 use Rattle.page.specs.Reading.{contentFrom, paragraphPage}
 use Rattle.writer.specs.declared.Pass.{Pass}
 use Rattle.writer.specs.Pass.{left, Cursors, Stands, Goes, Starts, Ends}
-use Rattle.writer.proofs.Cursors.{still-behind}
+use Rattle.cursor.proofs.Cursors.{still-behind}
 
 pub cursors-later : {s : List ℕ} {p : Pass} {i j : ℕ} → Cursors s p i → i ≤ j → Cursors s p j
 cursors-later c h = record { code = still-behind (c .code) h; link = still-behind (c .link) h }

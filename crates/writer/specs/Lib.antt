@@ -1,4 +1,2 @@
-pub mod Spanned
-pub mod Cursor
 pub mod Pass
 pub mod Samples

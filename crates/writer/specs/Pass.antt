@@ -5,10 +5,9 @@ use mathlib.Core.List.{List}
 use mathlib.Core.Logic.{_⊎_}
 use mathlib.Core.Bool.{Bool, true, false, cond}
 use lib.ListN.{length, take}
-use lib.Dec.{leb, ltb, eqb}
+use lib.Dec.{eqb}
 use Rattle.scan.specs.Member.{In}
 use Rattle.row.specs.First.{bytesOf}
-use Rattle.span.specs.Row.{rowAt}
 use Rattle.walk.specs.Walk.{between}
 use Rattle.inline.specs.Rows.{rowEnd}
 use Rattle.note.specs.Reading.{spanRows}
@@ -19,21 +18,7 @@ use Rattle.buffer.specs.Stored.{pageMost, Writes}
 use Rattle.buffer.specs.Stored.{Leads}
 use Rattle.page.specs.Reading.{isCode, rowStart, textEnd, text, destination, title, Written, paragraphPage, from, here, Bare}
 use Rattle.writer.specs.declared.Pass.{Pass}
-use Rattle.writer.specs.Cursor.{waits, Behind}
-
--- ---- rows of the table
--- the search from row `start` on ends at row k: those before it do not wait, and it does, if it is one of the `count` rows
-pub record Finds (u : List ℕ) (count : ℕ) (code : Bool) (i start k : ℕ) : Type 0 where
-  pub passed : (j : ℕ) → start ≤ j → j < k → waits code i (rowAt u j) ≡ false
-  pub there : k < count → waits code i (rowAt u k) ≡ true
-
--- where a row that waits at place i next calls for something: at its start, or where its text ends
-abbrev pub nextPlace : List ℕ → ℕ → ℕ
-nextPlace r i = cond (leb i (rowStart r)) (rowStart r) (textEnd r)
-
--- that of row k, or e if that comes first or there is no such row
-unfoldable pub rowPlace : List ℕ → ℕ → ℕ → ℕ → ℕ → ℕ
-rowPlace u count k i e = cond (ltb k count) (cond (ltb (nextPlace (rowAt u k) i) e) (nextPlace (rowAt u k) i) e) e
+use Rattle.cursor.specs.Cursor.{Behind}
 
 -- ---- a paragraph of the note s that ends at e
 module _ (s : List ℕ) (e : ℕ) where

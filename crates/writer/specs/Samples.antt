@@ -11,8 +11,8 @@ use Rattle.escaping.specs.Reading.{undone}
 use Rattle.code.specs.Reading.{margin}
 use Rattle.html.specs.Reading.{titleAttribute, linkOpen}
 use Rattle.page.specs.Reading.{Written}
-use Rattle.writer.specs.Cursor.{waits}
-use Rattle.writer.specs.Pass.{nextPlace, rowPlace, byRow}
+use Rattle.cursor.specs.Cursor.{waits, nextPlace, rowPlace}
+use Rattle.writer.specs.Pass.{byRow}
 
 abbrev note : List ℕ
 note = ascii "[max]: /q2/max \"June\"\n\nUse [max].\n"

@@ -1,12 +1,11 @@
 // The page of a note, written from its span rows in one pass over its bytes. What does not fit into the page is counted and not stored.
 ghost use mathlib.Core.Path.{_≡_};
 ghost use Prim.Native.Nat.{_≤_};
-ghost use Rattle.span.specs.Row.{numbers, wholeRows};
+ghost use Rattle.span.specs.Row.{numbers};
 ghost use Rattle.buffer.specs.Stored.{Writes};
 ghost use Rattle.page.specs.Reading.{pageOf};
-ghost use Rattle.writer.specs.Spanned.{Spanned};
-ghost use Rattle.writer.specs.Cursor.{waits};
-ghost use Rattle.writer.specs.Pass.{Finds, nextPlace, rowPlace, Called, Plain, Room, Passes, Stands, Goes, Starts, Ends};
+ghost use Rattle.cursor.specs.Spanned.{Spanned};
+ghost use Rattle.writer.specs.Pass.{Called, Plain, Room, Passes, Stands, Goes, Starts, Ends};
 use span::Span;
 use walk::Paragraph;
 
@@ -17,55 +16,6 @@ struct Pass {
     code: usize,
     link: usize,
     size: usize,
-}
-
-// Whether a row is a code span that does not start before `at`, or else a link whose text does not end before it.
-fn row_waits(row: Span, code: bool, at: usize) -> bool
-    ensures { λ r. ⌜ r ≡ waits code at (numbers row) ⌝ }
-{
-    if code {
-        return (row.kind == Span::CODE_SPAN) & (at <= row.whole.start);
-    }
-    (row.kind != Span::CODE_SPAN) & (at <= row.text.end)
-}
-
-// The first row from row `start` on that waits, or `count`.
-fn next_row(spans: &[u32], count: usize, start: usize, code: bool, at: usize) -> usize
-    requires { ⌜ count ≤ wholeRows (now spans) ⌝ }
-    ensures { λ r. ⌜ Finds (now (spans .entry)) count code at start r ⌝ }
-{
-    let mut k = start;
-    while k < count {
-        if row_waits(span::span_at(spans, k), code, at) {
-            return k;
-        }
-        k += 1;
-    }
-    k
-}
-
-// Where a row that waits at `at` next calls for something.
-fn next_place(row: Span, at: usize) -> usize
-    ensures { λ r. ⌜ r ≡ nextPlace (numbers row) at ⌝ }
-{
-    if at <= row.whole.start {
-        return row.whole.start;
-    }
-    row.text.end
-}
-
-// That of row `k`, or `end` if that comes first or there is no such row.
-fn row_place(spans: &[u32], count: usize, k: usize, at: usize, end: usize) -> usize
-    requires { ⌜ count ≤ wholeRows (now spans) ⌝ }
-    ensures { λ r. ⌜ r ≡ rowPlace (now (spans .entry)) count k at end ⌝ }
-{
-    if k < count {
-        let place = next_place(span::span_at(spans, k), at);
-        if place < end {
-            return place;
-        }
-    }
-    end
 }
 
 // What a row calls for where the pass stands: a code span, the opening tag of a link, or its closing tag in place of its tail.
@@ -135,13 +85,13 @@ fn write_next(
 {
     let at = p.at;
     let mut w = p;
-    w.code = next_row(spans, count, p.code, true, at);
-    w.link = next_row(spans, count, p.link, false, at);
-    let before_code = row_place(spans, count, w.code, at, end);
+    w.code = cursor::next_row(spans, count, p.code, true, at);
+    w.link = cursor::next_row(spans, count, p.link, false, at);
+    let before_code = cursor::row_place(spans, count, w.code, at, end);
     if before_code == at {
         return write_row(note, end, span::span_at(spans, w.code), w, page);
     }
-    let stop = row_place(spans, count, w.link, at, before_code);
+    let stop = cursor::row_place(spans, count, w.link, at, before_code);
     if stop == at {
         return write_row(note, end, span::span_at(spans, w.link), w, page);
     }

@@ -5,7 +5,7 @@ use mathlib.Core.Path.{sym, subst}
 use mathlib.Core.List.{List}
 use borrow.Author.Needs.{needs}
 use Rattle.writer.specs.Pass.{Called}
-use Rattle.writer.proofs.Rows.{row-read}
+use Rattle.cursor.proofs.Rows.{row-read}
 use Rattle.writer.proofs.Here.{goes, code-row, link-row, text-run}
 use Rattle.writer.proofs.write_next.Statement.{statement}
 use Rattle.writer.proofs.write_next.Tie as tie

@@ -10,8 +10,7 @@ use Rattle.span.specs.declared.Span.{Span}
 use Rattle.span.specs.Row.{numbers, wholeRows, rowAt, spanAt}
 use Rattle.span.proofs.Read.{numbers-at}
 use Rattle.page.specs.Reading.{rowStart, textEnd}
-use Rattle.writer.specs.Cursor.{waits}
-use Rattle.writer.specs.Pass.{Finds, nextPlace, rowPlace}
+use Rattle.cursor.specs.Cursor.{waits, Finds, nextPlace, rowPlace}
 
 -- ---- a row as it is read
 pub row-read : (u : List ℕ) {count k : ℕ} → count ≤ wholeRows u → k < count → {x : Span} → x ≡ spanAt u k → numbers x ≡ rowAt u k

@@ -3,11 +3,11 @@ use Prim.Native.Nat.{ℕ}
 use native.Mathlib.Omega.{arith}
 use mathlib.Core.List.{List}
 use borrow.Author.Needs.{needs}
-use Rattle.writer.specs.Pass.{nextPlace}
+use Rattle.cursor.specs.Cursor.{nextPlace}
 use mathlib.Core.Path.{sym, _∙_, ap}
-use Rattle.writer.proofs.Rows.{row-read, row-first, end-first, no-row}
-use Rattle.writer.proofs.row_place.Statement.{statement}
-use Rattle.writer.proofs.row_place.Tie as tie
+use Rattle.cursor.proofs.Rows.{row-read, row-first, end-first, no-row}
+use Rattle.cursor.proofs.row_place.Statement.{statement}
+use Rattle.cursor.proofs.row_place.Tie as tie
 
 span-at-requires : tie.Need-span-at-requires
 span-at-requires c κs = search needs

@@ -1,7 +1,7 @@
 -- The answer is the formula of `waits` itself.
 use mathlib.Core.Path.{refl}
-use Rattle.writer.proofs.row_waits.Statement.{statement}
-use Rattle.writer.proofs.row_waits.Tie as tie
+use Rattle.cursor.proofs.row_waits.Statement.{statement}
+use Rattle.cursor.proofs.row_waits.Tie as tie
 
 returns : tie.Need-returns
 returns c = rw (c .before .before .if1 .taken) refl

@@ -2,9 +2,9 @@
 use native.Mathlib.Omega.{arith}
 use mathlib.Core.Path.{sym}
 use Rattle.span.specs.Row.{numbers}
-use Rattle.writer.proofs.Rows.{at-start, at-text-end}
-use Rattle.writer.proofs.next_place.Statement.{statement}
-use Rattle.writer.proofs.next_place.Tie as tie
+use Rattle.cursor.proofs.Rows.{at-start, at-text-end}
+use Rattle.cursor.proofs.next_place.Statement.{statement}
+use Rattle.cursor.proofs.next_place.Tie as tie
 
 returns : tie.Need-returns
 returns c = sym (at-start (numbers (c .before .before .args .row)) (omega (arith, c .if1 .taken)))

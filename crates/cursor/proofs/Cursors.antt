@@ -17,7 +17,7 @@ use Rattle.page.specs.Reading.{isCode, rowStart, textEnd, firstRow, codeStarts,
 use Rattle.page.proofs.Found.{by-found, found-in, not-found}
 use Rattle.page.proofs.Extent.{row-some, link-text}
 use Rattle.page.proofs.Apart.{rows-apart}
-use Rattle.writer.specs.Cursor.{waits, Behind, Next, passing}
+use Rattle.cursor.specs.Cursor.{waits, Behind, Next, passing}
 
 -- ---- the first row that passes a test stands at the cursor, if no row before it passes, nor one after the row there
 module _ (test : List ℕ → Bool) (rows : List (List ℕ)) (cursor : ℕ) (before : (j : ℕ) (r : List ℕ) → j < cursor → getElem? rows j ≡ some r → test r ≡ true → ⊥)

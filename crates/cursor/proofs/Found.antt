@@ -11,10 +11,9 @@ use Rattle.marking.proofs.Lists.{at-inside}
 use Rattle.span.specs.Row.{rowAt}
 use Rattle.note.specs.Reading.{spanRows}
 use Rattle.page.specs.Reading.{firstRow}
-use Rattle.writer.specs.Cursor.{waits, Behind, Next, passing}
-use Rattle.writer.specs.Spanned.{Spanned}
-use Rattle.writer.specs.Pass.{Finds}
-use Rattle.writer.proofs.Cursors.{still-behind}
+use Rattle.cursor.specs.Cursor.{waits, Behind, Next, passing, Finds}
+use Rattle.cursor.specs.Spanned.{Spanned}
+use Rattle.cursor.proofs.Cursors.{still-behind}
 
 module _ {s u : List ℕ} {count : ℕ} (d : Spanned s u count) where
   -- ---- the table's rows are the note's

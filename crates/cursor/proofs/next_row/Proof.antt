@@ -2,10 +2,10 @@
 use Prim.Native.Nat.{_-_}
 use mathlib.Core.Path.{sym, ap, _∙_}
 use borrow.Author.Needs.{needs}
-use Rattle.writer.specs.Cursor.{waits}
-use Rattle.writer.proofs.Rows.{Passed, none-passed, one-passed, found-there, none-there, row-read}
-use Rattle.writer.proofs.next_row.Statement.{statement}
-use Rattle.writer.proofs.next_row.Tie as tie
+use Rattle.cursor.specs.Cursor.{waits}
+use Rattle.cursor.proofs.Rows.{Passed, none-passed, one-passed, found-there, none-there, row-read}
+use Rattle.cursor.proofs.next_row.Statement.{statement}
+use Rattle.cursor.proofs.next_row.Tie as tie
 
 abbrev Inv-loop : tie.InvT-loop
 Inv-loop spans count start code at k₀ k = Passed spans count code at start k
