@@ -2,10 +2,10 @@
 use Prim.Native.Nat.{ℕ, suc, _+_, _-_, _<_}
 use native.Mathlib.Nat.{add-zero}
 use native.Mathlib.Omega.{arith}
-use mathlib.Core.Path.{_≡_, refl, sym, ap, _∙_, subst}
+use mathlib.Core.Path.{_≡_, refl, sym, ap, subst}
 use mathlib.Core.List.{List, [], _∷_, _++_, append-assoc, append-nil}
 use mathlib.Core.Logic.{_↔_}
-use mathlib.Core.Bool.{true, false, _||_, _&&_}
+use mathlib.Core.Bool.{true, false, _||_}
 use lib.ListN.{getD}
 use lib.Dec.{eqb}
 use Rattle.scan.specs.Byte.{punctuation, escapes}

@@ -6,8 +6,7 @@ use mathlib.Core.List.{List, [], _∷_, _++_}
 use mathlib.Core.Bool.{Bool, true, false, true≢false, cond, _&&_, _||_}
 use mathlib.Core.Logic.{_↔_}
 use borrow.Author.Tests.{not-false}
-use lib.ListN.{length, getD, take, length-append}
-use lib.Seq.{take-at}
+use lib.ListN.{length, getD, length-append}
 use lib.Dec.{eqb}
 use Rattle.scan.proofs.Test.{by, neither}
 use Rattle.scan.specs.Byte.{blank}
@@ -110,9 +109,3 @@ spaceRun-iff s n = (
 
 pub spaceRun-fits : (s : List ℕ) → spaceRun s ≤ length s
 spaceRun-fits s = let f = longest-front s in omega (arith, f .size, ap length (f .whole), length-append (f .front) (f .rest))
-
-pub spaceRun-space : (s : List ℕ) → Space (take (spaceRun s) s)
-spaceRun-space s =
-    let f = longest-front s in
-    let e : take (spaceRun s) s ≡ f .front = ap (take (spaceRun s)) (f .whole) ∙ take-at (f .front) (f .rest) (spaceRun s) (f .size) in
-    rw e (f .space)
