@@ -7,7 +7,8 @@ use mathlib.Core.List.{List}
 use mathlib.Core.Bool.{Bool, true, false}
 use borrow.Author.Tests.{le-leb, lt-leb, lt-ltb, le-ltb}
 use Rattle.span.specs.declared.Span.{Span}
-use Rattle.span.specs.Row.{numbers, wholeRows, rowAt, spanAt}
+use Rattle.span.specs.Row.{numbers, wholeRows, rowAt}
+use Rattle.span.specs.Reading.{spanAt}
 use Rattle.span.proofs.Read.{numbers-at}
 use Rattle.page.specs.Reading.{rowStart, textEnd}
 use Rattle.cursor.specs.Cursor.{waits, Finds, nextPlace, rowPlace}

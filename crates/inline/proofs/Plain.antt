@@ -9,7 +9,7 @@ use lib.ListN.{length, getD}
 use Rattle.scan.proofs.Scan.{peek-inside, run-yes, past-on, past-stop}
 use Rattle.scan.specs.Reading.{run, past, clear, pastStrides}
 use Rattle.scan.proofs.Strides.{told-apart, strides-through}
-use Rattle.inline.specs.Pieces.{quiet}
+use Rattle.inline.specs.ReadingPieces.{quiet}
 
 abbrev strided : ℕ → Bool
 strided b = clear 255 91 93 96 96 96 b

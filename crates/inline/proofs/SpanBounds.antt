@@ -23,7 +23,8 @@ use Rattle.inline.specs.Tails.{Tail, inline, lengthOf, InlineFollows, em
 use Rattle.inline.specs.ReadingTails.{moved}
 use Rattle.inline.proofs.TailBounds.{PartIn, inlineOf-within}
 use Rattle.inline.specs.Paragraph.{rules}
-use Rattle.inline.specs.Rows.{wholeOf, targetOf, PartBetween}
+use Rattle.inline.specs.Rows.{wholeOf, targetOf}
+use Rattle.inline.specs.Claims.{PartBetween}
 use Rattle.inline.specs.ReadingRows.{textOf}
 use Rattle.inline.proofs.Starting.{starts-iff}
 use Rattle.inline.proofs.InlineComplete.{ReadAs, inline-read}

@@ -18,7 +18,8 @@ use Rattle.inline.specs.Pieces.{backtick}
 use Rattle.inline.specs.Tails.{Tail, inline, full, collapsed, shortcut}
 use Rattle.inline.specs.Paragraph.{rules}
 use Rattle.inline.specs.Reading.{grammar}
-use Rattle.inline.specs.Rows.{wholeOf, CodeText, fromNote, RowIs, code-span, inline-link, full-reference, collapsed-reference, shortcut-reference, RowsAre, EndsIncrease, RowWithin}
+use Rattle.inline.specs.Rows.{wholeOf, CodeText, fromNote, RowIs, code-span, inline-link, full-reference, collapsed-reference, shortcut-reference, RowsAre, EndsIncrease}
+use Rattle.inline.specs.Claims.{RowWithin}
 use Rattle.inline.specs.ReadingRows.{textOf, spanRow, spanRows}
 use Rattle.inline.proofs.Demand3.{the-marking, the-marking-meets, its-spans-are-read, no-other-span-list}
 use Rattle.inline.proofs.SpanBounds.{code-text, SpanWithin, span-within}

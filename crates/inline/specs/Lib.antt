@@ -2,6 +2,7 @@ pub mod Pieces
 pub mod Tails
 pub mod Paragraph
 pub mod Rows
+pub mod Claims
 pub mod ReadingPieces
 pub mod ReadingTails
 pub mod Reading

@@ -2,7 +2,7 @@
 use Prim.Native.Nat.{ℕ, suc, _+_, _≤_, _<_}
 use mathlib.Core.Path.{_≡_}
 use mathlib.Core.List.{List}
-use mathlib.Core.Bool.{Bool, true, false, not, _||_}
+use mathlib.Core.Bool.{Bool, true, false, _||_}
 use lib.ListN.{length, getD, drop}
 use lib.Dec.{eqb}
 use Rattle.scan.specs.Byte.{escapes}
@@ -31,10 +31,6 @@ pub record FirstRun (p : List ℕ) (from n a : ℕ) : Type 0 where
 -- bytes that start a piece of another kind than plain text
 abbrev pub marks : ℕ → Bool
 marks b = backtick b || eqb b 91 || eqb b 93
-
--- bytes that start a piece of plain text whatever stands after them
-abbrev pub quiet : ℕ → Bool
-quiet b = not (marks b || eqb b 92)
 
 -- "What starts a piece decides its kind"
 pub data Starts (p : List ℕ) : Piece → Type 0 where

@@ -1,7 +1,7 @@
 -- The piece that starts at a place, by the bytes there.
 use Prim.Native.Nat.{ℕ, _+_}
 use mathlib.Core.List.{List}
-use mathlib.Core.Bool.{true, false, cond, not, _&&_}
+use mathlib.Core.Bool.{Bool, true, false, cond, not, _&&_, _||_}
 use lib.ListN.{getD, drop}
 use lib.Dec.{eqb}
 use Rattle.scan.specs.Byte.{escapes}
@@ -9,7 +9,7 @@ use Rattle.scan.specs.Reading.{Step, stop, next, scan, run}
 use Rattle.scan.specs.declared.Found.{Found}
 use Rattle.scan.specs.declared.Found.the-variants.{At, Nothing}
 use Rattle.marking.specs.Marking.{Kind, Piece, escape, code, plain, opens, closes}
-use Rattle.inline.specs.Pieces.{backtick}
+use Rattle.inline.specs.Pieces.{backtick, marks}
 
 -- ---- where the run of backticks that closes a code span ends: one pass, with a count of the backticks just before the place
 -- a place, and how many backticks stand just before it
@@ -36,6 +36,10 @@ module _ (n : ℕ) where
   closingRun s at = runFrom s (record { at = at; count = 0 })
 
 -- ---- the piece
+-- bytes that start a piece of plain text whatever stands after them
+abbrev pub quiet : ℕ → Bool
+quiet b = not (marks b || eqb b 92)
+
 abbrev pub piece : Kind → ℕ → ℕ → Piece
 piece k a e = record { kind = k; start = a; end = e }
 

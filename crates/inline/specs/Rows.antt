@@ -1,15 +1,15 @@
 -- The row of a span: document 01, "Rows".
-use Prim.Native.Nat.{ℕ, suc, _+_, _≤_, _<_}
+use Prim.Native.Nat.{ℕ, suc, _+_, _<_}
 use mathlib.Core.Path.{_≡_}
 use mathlib.Core.Option.{Option, none, some}
 use mathlib.Core.List.{List, Forall₂}
-use lib.ListN.{length, getD, getElem?}
+use lib.ListN.{getD, getElem?}
 use Rattle.marking.specs.Marking.{Piece, Marking}
 use Rattle.marking.specs.Spans.{Span, codeSpan, linkSpan, SpansAre}
 use Rattle.row.specs.declared.Range.{Range}
 use Rattle.row.specs.declared.Definition.{Definition}
 use Rattle.row.specs.Row.{range, absent}
-use Rattle.span.specs.Row.{width, numbers, definitionNumber, codeSpanRow, inlineRow, fullRow, collapsedRow, shortcutRow}
+use Rattle.span.specs.Row.{numbers, definitionNumber, codeSpanRow, inlineRow, fullRow, collapsedRow, shortcutRow}
 use Rattle.inline.specs.Pieces.{Backticks}
 use Rattle.inline.specs.Tails.{Tail, inline, full, collapsed, shortcut, lengthOf}
 use Rattle.inline.specs.Paragraph.{rules}
@@ -84,24 +84,10 @@ pub record RowsAre (offset : ℕ) (p : List ℕ) (labels : List (List ℕ)) (ds 
   pub are : SpansAre (rules p labels) m spans
   pub made : Forall₂ (RowIs offset p ds) spans rows
 
--- ---- what is claimed of rows
+-- ---- the order of rows
 abbrev pub rowEnd : List ℕ → ℕ
 rowEnd row = getD row 2 0
 
 -- "Rows stand in increasing order of end."
 abbrev pub EndsIncrease : List (List ℕ) → Type 0
 EndsIncrease rows = (k : ℕ) (x y : List ℕ) → getElem? rows k ≡ some x → getElem? rows (suc k) ≡ some y → rowEnd x < rowEnd y
-
--- a row has its width, and its span and text lie within a paragraph of n bytes at place `offset`, the text within the span
-pub record RowWithin (offset n : ℕ) (row : List ℕ) : Type 0 where
-  pub wide : length row ≡ width
-  pub from : offset ≤ getD row 1 0
-  pub text-from : getD row 1 0 ≤ getD row 3 0
-  pub text-ordered : getD row 3 0 ≤ getD row 4 0
-  pub text-to : getD row 4 0 ≤ rowEnd row
-  pub to : rowEnd row ≤ offset + n
-
--- a part, where there is one, lies between two places
-abbrev pub PartBetween : ℕ → ℕ → Option Range → Type 0
-PartBetween lo hi none = Unit {0}
-PartBetween lo hi (some r) = (lo ≤ r .start) × (r .start ≤ r .end) × (r .end ≤ hi)

@@ -16,7 +16,8 @@ use Rattle.row.specs.First.{bytesOf, labelsOf}
 use Rattle.definition.specs.Reading.{definitions}
 use Rattle.definition.proofs.NotePlaces.{Inside, definitions-inside}
 use Rattle.inline.specs.Tails.{Tail, inline, full, collapsed, shortcut}
-use Rattle.inline.specs.Rows.{Target, defined, targetOf, fromNote?, RowWithin, PartBetween}
+use Rattle.inline.specs.Rows.{Target, defined, targetOf, fromNote?}
+use Rattle.inline.specs.Claims.{RowWithin, PartBetween}
 use Rattle.inline.specs.ReadingRows.{spanRow}
 use Rattle.inline.proofs.SpanBounds.{inline-parts-within, number-defined}
 use Rattle.note.specs.Note.{MarkingOf}

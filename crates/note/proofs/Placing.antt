@@ -15,7 +15,7 @@ use Rattle.row.specs.First.{bytesOf, labelsOf}
 use Rattle.definition.specs.Reading.{definitions}
 use Rattle.definition.proofs.NotePlaces.{Inside, Ordered, done, next, paragraphs-in-order}
 use Rattle.inline.specs.Tails.{Tail}
-use Rattle.inline.specs.Rows.{RowWithin}
+use Rattle.inline.specs.Claims.{RowWithin}
 use Rattle.inline.specs.ReadingRows.{spanRow}
 use Rattle.inline.proofs.SpanRows.{row-read, row-within}
 use Rattle.note.specs.Note.{MarkingOf}

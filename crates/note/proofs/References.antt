@@ -15,7 +15,8 @@ use Rattle.row.specs.First.{bytesOf, labelsOf, FirstEqual}
 use Rattle.definition.specs.Reading.{definitions}
 use Rattle.definition.proofs.NotePlaces.{Inside}
 use Rattle.inline.specs.Tails.{Tail, full, collapsed, shortcut, LabelFollows, InlineFollows, empty, untitled, titled, TailOf, first, second, third, third-alone}
-use Rattle.inline.specs.Rows.{Target, defined, targetOf, RowWithin}
+use Rattle.inline.specs.Rows.{Target, defined, targetOf}
+use Rattle.inline.specs.Claims.{RowWithin}
 use Rattle.inline.specs.ReadingRows.{kindNumber, spanRow}
 use Rattle.note.specs.Note.{MarkingOf, Marked}
 use Rattle.note.specs.Claims.{lookedUp, RefersTo}

@@ -17,7 +17,8 @@ use Rattle.inline.specs.Pieces.{Starts, an-escape, code-span, backticks, openin
 use Rattle.inline.specs.Tails.{Tail, TailOf}
 use Rattle.inline.specs.Paragraph.{rules}
 use Rattle.inline.specs.Reading.{grammar}
-use Rattle.inline.specs.Rows.{rowEnd, RowWithin}
+use Rattle.inline.specs.Rows.{rowEnd}
+use Rattle.inline.specs.Claims.{RowWithin}
 use Rattle.inline.specs.ReadingRows.{spanRow, spanRows}
 use Rattle.inline.proofs.Demand3.{the-marking, the-marking-meets, its-spans-are-read}
 use Rattle.inline.proofs.SpanRows.{row-within}

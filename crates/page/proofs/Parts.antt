@@ -19,7 +19,8 @@ use Rattle.definition.proofs.Endings.{TitlePlace}
 use Rattle.definition.proofs.Places.{definition-places}
 use Rattle.definition.proofs.Takings.{by-entry, from-none, from-one}
 use Rattle.inline.specs.Tails.{Tail, inline, full, collapsed, shortcut}
-use Rattle.inline.specs.Rows.{Target, defined, targetOf, fromNote?, PartBetween}
+use Rattle.inline.specs.Rows.{Target, defined, targetOf, fromNote?}
+use Rattle.inline.specs.Claims.{PartBetween}
 use Rattle.inline.proofs.SpanBounds.{inline-parts-within, number-defined}
 use Rattle.note.specs.Note.{MarkingOf}
 use Rattle.note.specs.Reading.{spanRows}

@@ -12,8 +12,7 @@ use lib.Seq.{getD-drop}
 use Rattle.scan.specs.Byte.{escapes}
 use Rattle.marking.specs.Marking.{opens, closes, plain}
 use Rattle.marking.specs.Reading.{isCode}
-use Rattle.inline.specs.Pieces.{quiet}
-use Rattle.inline.specs.ReadingPieces.{piece, kindOf, pieceFrom}
+use Rattle.inline.specs.ReadingPieces.{quiet, piece, kindOf, pieceFrom}
 use Rattle.inline.proofs.Turns.{from-byte}
 
 module _ (p : List ℕ) (a : ℕ) where

@@ -11,8 +11,7 @@ use Rattle.scan.proofs.Scan.{at-cons, run-yes, run-no}
 use Rattle.scan.specs.Reading.{run, past}
 use Rattle.marking.specs.Marking.{plain}
 use Rattle.row.specs.declared.Definition.{Definition}
-use Rattle.inline.specs.Pieces.{quiet}
-use Rattle.inline.specs.ReadingPieces.{piece}
+use Rattle.inline.specs.ReadingPieces.{quiet, piece}
 use Rattle.inline.proofs.PieceBounds.{run-fits}
 use Rattle.paragraph.specs.declared.Walk.{Walk}
 use Rattle.paragraph.proofs.Pieces.{quiet-other, at-quiet}

@@ -6,7 +6,8 @@ use mathlib.Core.Path.{_≡_, refl, sym, ap, _∙_}
 use mathlib.Core.List.{List, [], _∷_}
 use lib.ListN.{length, getD, take, drop}
 use Rattle.scan.proofs.Scan.{at-cons}
-use Rattle.span.specs.Row.{width, numbers, wholeRows, rowAt, spanAt}
+use Rattle.span.specs.Row.{width, numbers, wholeRows, rowAt}
+use Rattle.span.specs.Reading.{spanAt}
 
 -- n numbers from place a + j on, one after the other
 abbrev each : List ℕ → ℕ → ℕ → ℕ → List ℕ

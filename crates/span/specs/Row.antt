@@ -1,11 +1,10 @@
 -- Span rows, and what a table of them holds.
 use Prim.Native.Nat.{ℕ, _+_, _*_, _<_, _^_}
 use mathlib.Core.List.{List, [], _∷_}
-use lib.ListN.{getD, take, drop}
+use lib.ListN.{take, drop}
 use Rattle.rows.specs.Rows
 use Rattle.row.specs.declared.Range.{Range}
 use Rattle.row.specs.Row.{absent, SmallPart}
-use Rattle.row.specs.Reading.{rangeAt}
 use Rattle.span.specs.declared.Span.{Span}
 
 -- "Span table, ten 32-bit numbers a row"
@@ -83,12 +82,6 @@ filled = Rows.filled width numbers
 -- the numbers of row k
 abbrev pub rowAt : List ℕ → ℕ → List ℕ
 rowAt t k = take width (drop (k * width) t)
-
--- the span whose row is row k
-abbrev pub spanAt : List ℕ → ℕ → Span
-spanAt t k =
-    let at = k * width in
-    span (getD t at 0) (rangeAt t (at + 1)) (rangeAt t (at + 3)) (getD t (at + 5) 0) (rangeAt t (at + 6)) (rangeAt t (at + 8))
 
 -- a number and the two parts after it: the first five numbers of a row, or the last five
 abbrev pub storedHalf : List ℕ → ℕ → ℕ → Range → Range → List ℕ

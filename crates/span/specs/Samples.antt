@@ -5,7 +5,8 @@ use mathlib.Core.List.{List, [], _∷_, _++_}
 use lib.ListN.{replicate}
 use Rattle.rows.specs.Rows
 use Rattle.row.specs.Row.{range, absent}
-use Rattle.span.specs.Row.{numbers, codeSpanRow, inlineRow, fullRow, collapsedRow, shortcutRow, filled, rowAt, spanAt}
+use Rattle.span.specs.Row.{numbers, codeSpanRow, inlineRow, fullRow, collapsedRow, shortcutRow, filled, rowAt}
+use Rattle.span.specs.Reading.{spanAt}
 
 -- ---- a row of each kind
 pub record SpanRows : Type 0 where

@@ -3,7 +3,8 @@ ghost use mathlib.Core.Path.{_≡_};
 ghost use Prim.Native.Nat.{_+_, _<_, _^_};
 ghost use lib.ListN.{length};
 ghost use Rattle.row.specs.Row.{SmallPart};
-ghost use Rattle.span.specs.Row.{codeSpanRow, inlineRow, referenceRow, fullRow, collapsedRow, shortcutRow, Small, wholeRows, storedHalf, stored, spanAt};
+ghost use Rattle.span.specs.Row.{codeSpanRow, inlineRow, referenceRow, fullRow, collapsedRow, shortcutRow, Small, wholeRows, storedHalf, stored};
+ghost use Rattle.span.specs.Reading.{spanAt};
 use row::Range;
 
 // A code span or a link: its kind, from where to where it runs, the text between its backtick strings or brackets, the

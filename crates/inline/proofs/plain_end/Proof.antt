@@ -5,7 +5,7 @@ use mathlib.Core.Path.{_≡_}
 use lib.ListN.{length}
 use Rattle.scan.specs.Reading.{past}
 use Rattle.scan.proofs.Scan.{past-end}
-use Rattle.inline.specs.Pieces.{quiet}
+use Rattle.inline.specs.ReadingPieces.{quiet}
 use Rattle.inline.proofs.Plain.{none-plain, plain-strides, plain-on, plain-stop}
 use Rattle.inline.proofs.plain_end.Statement.{statement}
 use Rattle.inline.proofs.plain_end.Tie as tie
