@@ -56,7 +56,7 @@ other-first : {l : List ℕ} {run : List (List ℕ)} → AllOther (l ∷ run) �
 other-first (more n others) = n
 
 pub starts-some : {s l : List ℕ} {ls : List (List ℕ)} → Starts s l ls → 0 < length s
-starts-some {s} {l} f = let h = ap length (f .whole) ∙ length-append l (f .rest) in omega (arith, f .is-line .some)
+starts-some {s} {l} f = let h = ap length (f .whole) ∙ length-append l (f .rest) in omega (arith, f .is-line .nonempty)
 
 complete : {at : ℕ} {ls : List (List ℕ)} {bs : List Placed} → Blocks at ls bs → {s : List ℕ} → Lines s ls → leap partLength blockHere 0 s at ≡ bs
 unfolding leap

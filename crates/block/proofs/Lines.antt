@@ -24,7 +24,7 @@ pub record LineBefore (l rest : List ℕ) : Type 0 where
   pub plain : Every inLine body
   pub ended : EndOfLine (ending ++ rest) rest
   pub alone : EndOfLine ending []
-  pub some : 0 < length l
+  pub nonempty : 0 < length l
 
 -- s starts with the line l, and the lines ls follow
 pub record Starts (s l : List ℕ) (ls : List (List ℕ)) : Type 0 where
@@ -38,14 +38,14 @@ starts (line {body} {s} e m) =
     record {
       rest = s;
       whole = sym (append-assoc body (10 ∷ []) s);
-      is-line = record { body = body; ending = 10 ∷ []; whole = refl; plain = e; ended = feed; alone = feed; some = omega (arith, length-append body (10 ∷ [])) };
+      is-line = record { body = body; ending = 10 ∷ []; whole = refl; plain = e; ended = feed; alone = feed; nonempty = omega (arith, length-append body (10 ∷ [])) };
       others = m;
     }
 starts (last {b} {body} e) =
     record {
       rest = [];
       whole = sym (append-nil (b ∷ body));
-      is-line = record { body = b ∷ body; ending = []; whole = sym (append-nil (b ∷ body)); plain = e; ended = end; alone = end; some = omega arith };
+      is-line = record { body = b ∷ body; ending = []; whole = sym (append-nil (b ∷ body)); plain = e; ended = end; alone = end; nonempty = omega arith };
       others = none;
     }
 
@@ -150,7 +150,7 @@ module _ {s l : List ℕ} {ls : List (List ℕ)} (f : Starts s l ls) where
   back = rw size (rw (f .whole) (sym (drop-at l (f .rest) (length l) refl)))
 
 never : {l : List ℕ} {ls : List (List ℕ)} → Lines [] (l ∷ ls) → ⊥
-never {l} p = let f = starts p in omega (arith, f .is-line .some, length-append l (f .rest), ap length (f .whole))
+never {l} p = let f = starts p in omega (arith, f .is-line .nonempty, length-append l (f .rest), ap length (f .whole))
 
 pub lines-one : {s : List ℕ} (ls ms : List (List ℕ)) → Lines s ls → Lines s ms → ls ≡ ms
 lines-one [] [] p q = refl

@@ -19,7 +19,7 @@ use Rattle.block.proofs.Blocks.{run-of, blocks-iff}
 pub record Within (s : List ℕ) (b : Placed) : Type 0 where
   pub bytes-there : b .bytes ≡ take (length (b .bytes)) (drop (b .at) s)
   pub inside : b .at + length (b .bytes) ≤ length s
-  pub some : 0 < length (b .bytes)
+  pub nonempty : 0 < length (b .bytes)
 
 -- each lies within s, the first starts at `from` or later, and each other where the one before it ends, or later
 pub data InOrder (s : List ℕ) : ℕ → List Placed → Type 0 where
@@ -41,7 +41,7 @@ module _ (s : List ℕ) where
       record {
         bytes-there = sym (ap (take (length front)) e ∙ take-at front after (length front) refl);
         inside = omega (arith, length-drop at s);
-        some = h;
+        nonempty = h;
       }
 
   in-order : {at : ℕ} {ls : List (List ℕ)} {bs : List Placed} → Blocks at ls bs → Lines (drop at s) ls → InOrder s at bs
@@ -51,7 +51,7 @@ module _ (s : List ℕ) where
       earlier (le-add-right at (length l)) (in-order on (rw (moved at (length l) l (f .rest) (f .whole) refl) at (f .others)))
   in-order (block {at} {l} {run} {rest} others over on) p =
       let r = run-of (l ∷ run) rest p in
-      let h : 0 < length (joined (l ∷ run)) = omega (arith, starts p .is-line .some, length-append l (joined run)) in
+      let h : 0 < length (joined (l ∷ run)) = omega (arith, starts p .is-line .nonempty, length-append l (joined run)) in
       next (le-refl at) (within at (joined (l ∷ run)) (r .after) (r .whole) h)
       (in-order on (rw (moved at (length (joined (l ∷ run))) (joined (l ∷ run)) (r .after) (r .whole) refl) at (r .others)))
 

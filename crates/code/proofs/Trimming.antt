@@ -64,7 +64,7 @@ last c h =
 
 -- ---- a content that is surrounded by spaces, taken apart
 record Inside (c : List ℕ) : Type 0 where
-  some : 0 < run space c
+  nonempty : 0 < run space c
   not-all : run space c < length c
   last-space : space (getD c (length c - 1) 0) ≡ true
 
@@ -72,13 +72,13 @@ inside : (c : List ℕ) → surrounded c ≡ true → Inside c
 inside c e =
     let f = and-left _ (space (getD c (length c - 1) 0)) e in
     record {
-      some = ltb-true 0 (run space c) (and-left _ (ltb (run space c) (length c)) f);
+      nonempty = ltb-true 0 (run space c) (and-left _ (ltb (run space c) (length c)) f);
       not-all = ltb-true (run space c) (length c) (and-right (ltb 0 (run space c)) _ f);
       last-space = and-right (ltb 0 (run space c) && ltb (run space c) (length c)) _ e;
     }
 
 surrounds : (c : List ℕ) → Inside c → surrounded c ≡ true
-surrounds c i = simp (lt-ltb 0 (run space c) (i .some), lt-ltb (run space c) (length c) (i .not-all), i .last-space)
+surrounds c i = simp (lt-ltb 0 (run space c) (i .nonempty), lt-ltb (run space c) (length c) (i .not-all), i .last-space)
 
 -- ---- sound
 starts-with-space : (b : ℕ) (t : List ℕ) → 0 < run space (b ∷ t) → b ≡ 32
@@ -86,14 +86,14 @@ starts-with-space b t h =
     by (space b) (λ e. eqb-true b 32 e) (λ e. let no : ⊥ = omega (arith, run-no space b t e) in absurd no)
 
 yes : (c : List ℕ) → surrounded c ≡ true → Trimmed c (trim c)
-yes [] e = let i = inside [] e in let no : ⊥ = omega (arith, i .some, i .not-all) in absurd no
+yes [] e = let i = inside [] e in let no : ⊥ = omega (arith, i .nonempty, i .not-all) in absurd no
 yes (b ∷ t) e =
     let i = inside (b ∷ t) e in
-    let h : 0 < length t = omega (arith, i .some, i .not-all) in
+    let h : 0 < length t = omega (arith, i .nonempty, i .not-all) in
     let z : suc (length t) - 1 ≡ suc (length t - 1) = omega arith in
     let k : getD t (length t - 1) 0 ≡ 32 = eqb-true _ 32 (rw z at (i .last-space)) in
     let w : b ∷ t ≡ 32 ∷ (take (length t - 1) t ++ 32 ∷ []) =
-    rw (starts-with-space b t (i .some)) (ap (λ (x : List ℕ). 32 ∷ x) (rw k at (last t h))) in
+    rw (starts-with-space b t (i .nonempty)) (ap (λ (x : List ℕ). 32 ∷ x) (rw k at (last t h))) in
     rw (trim-yes b t e)
     (subst (λ (x : List ℕ). Trimmed x (take (length t - 1) t)) (sym w)
     (dropped (λ all. let r = run-all (subst (Every space) (sym w) all) in let no : ⊥ = omega (arith, r, i .not-all) in no)))
@@ -102,7 +102,7 @@ yes (b ∷ t) e =
 no-last : (c : List ℕ) → surrounded c ≡ false → 0 < run space c → run space c < length c → space (getD c (length c - 1) 0) ≡ false
 no-last c e h k =
     by (space (getD c (length c - 1) 0))
-    (λ y. absurd (true≢false (sym (surrounds c (record { some = h; not-all = k; last-space = y })) ∙ e))) (λ n. n)
+    (λ y. absurd (true≢false (sym (surrounds c (record { nonempty = h; not-all = k; last-space = y })) ∙ e))) (λ n. n)
 
 no : (c : List ℕ) → surrounded c ≡ false → Trimmed c c
 no [] e = all-spaces none
@@ -128,7 +128,7 @@ trim-complete (dropped {m} n) =
     by (ltb (run space c) (length c)) (ltb-true _ _)
     (λ f. absurd (n (all-run c (omega (arith, run-most c, ltb-false (run space c) (length c) f))))) in
     let z : length (m ++ 32 ∷ []) - 1 ≡ length m = omega (arith, length-append m (32 ∷ [])) in
-    trim-yes 32 (m ++ 32 ∷ []) (surrounds c (record { some = omega (arith, run-yes space 32 (m ++ 32 ∷ []) refl); not-all = k; last-space = l }))
+    trim-yes 32 (m ++ 32 ∷ []) (surrounds c (record { nonempty = omega (arith, run-yes space 32 (m ++ 32 ∷ []) refl); not-all = k; last-space = l }))
     ∙ rw z (take-append-seam m (32 ∷ []))
 trim-complete (all-spaces {l} e) = trim-no l (simp (le-ltb (run space l) (length l) (omega (arith, run-all e)), and-false))
 trim-complete (other-start b l e) = trim-no (b ∷ l) (simp (run-no space b l e))

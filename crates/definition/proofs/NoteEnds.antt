@@ -46,7 +46,7 @@ lines-ended (l ∷ []) after p h = let f = starts p in rw (f .whole, append-nil 
 lines-ended (l ∷ m ∷ ls) after p h =
     let f = starts p in
     let g = starts (f .others) in
-    let k : 0 < length (joined (m ∷ ls)) = omega (arith, g .is-line .some, length-append m (joined ls)) in
+    let k : 0 < length (joined (m ∷ ls)) = omega (arith, g .is-line .nonempty, length-append m (joined ls)) in
     rw (f .whole, length-append l (joined (m ∷ ls))) (ended-later l (f .rest) (length (joined (m ∷ ls))) k (lines-ended (m ∷ ls) after (f .others) k))
 
 -- a run of lines that others stand before
@@ -64,7 +64,7 @@ module _ (s : List ℕ) (b : Placed) (mem : List·Memᴰ b (blocks s)) where
   pub block-ended : LineEnded s (b .at + length (b .bytes))
   block-ended =
       let r = block-iff s b .0 mem in
-      let h : 0 < length (joined (r .first ∷ r .run)) = subst (λ (x : Placed). 0 < length (x .bytes)) (r .whole) (block-within s mem .some) in
+      let h : 0 < length (joined (r .first ∷ r .run)) = subst (λ (x : Placed). 0 < length (x .bytes)) (r .whole) (block-within s mem .nonempty) in
       subst (λ (x : Placed). LineEnded s (x .at + length (x .bytes))) (sym (r .whole)) (run-ended (r .before) (r .first ∷ r .run) (r .after) (r .are-lines) h)
 
   in-note : (n : ℕ) → 0 < n → n ≤ b .at + length (b .bytes) → LineEnded (upToEnd s b) n → LineEnded s n

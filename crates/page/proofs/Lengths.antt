@@ -50,7 +50,7 @@ count-in : {s : List ℕ} {from : ℕ} {bs : List Placed} → block.InOrder s fr
 unfolding paragraphsIn paragraphOf
 count-in block.done h = omega arith
 count-in {s} (block.next {b = b} {bs = bs} k w o) h =
-    omega (arith, w .inside, w .some, count-in o (w .inside), one-most (upToEnd s b) (definitionsOf s b .after), length-append (paragraphFrom (upToEnd s b) (definitionsOf s b .after)) (paragraphsIn s bs))
+    omega (arith, w .inside, w .nonempty, count-in o (w .inside), one-most (upToEnd s b) (definitionsOf s b .after), length-append (paragraphFrom (upToEnd s b) (definitionsOf s b .after)) (paragraphsIn s bs))
 
 count-most : (s : List ℕ) → length (paragraphs s) ≤ length s
 unfolding paragraphs

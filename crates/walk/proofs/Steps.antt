@@ -42,7 +42,7 @@ module _ (s : List ℕ) (at i : ℕ) (inv : blocksFrom s i ≡ blocksFrom s at) 
       record {
         first = sym inv ∙ places.turn-block s i other ∙ rw (size, f);
         low = h;
-        some = omega (arith, places.block-advances s i other);
+        nonempty = omega (arith, places.block-advances s i other);
         inside = omega (arith, places.block-inside s i other);
       }
 
@@ -61,13 +61,13 @@ module _ (s : List ℕ) (i : ℕ) {b : Block} (is-block : IsBlock s i b) {a z : 
   block-starts h l = omega (arith, found-block .low)
 
   pub block-ends : {k : ℕ} → k ≤ i → k ≤ z
-  block-ends h = let f = found-block in omega (arith, f .low, f .some)
+  block-ends h = let f = found-block in omega (arith, f .low, f .nonempty)
 
   pub block-ordered : a ≤ z
-  block-ordered = omega (arith, found-block .some)
+  block-ordered = omega (arith, found-block .nonempty)
 
   pub block-less : length s - z < length s - i
-  block-less = let f = found-block in omega (arith, f .low, f .some, f .inside)
+  block-less = let f = found-block in omega (arith, f .low, f .nonempty, f .inside)
 
 -- ---- a block from place a up to place e
 module _ (s : List ℕ) (a e : ℕ) (ordered : a ≤ e) (inside : e ≤ length s) where
@@ -134,7 +134,7 @@ module _ (s : List ℕ) (c : Cursor) (at end : ℕ) (inv : definitionsAfter s (c
     unfolding definitionsIn definitionsAfter
     next-block {a = a} {z} q e =
         let f = found-block s end q e in
-        let t = its-taking s a z (omega (arith, f .some)) (f .inside) in
+        let t = its-taking s a z (omega (arith, f .nonempty)) (f .inside) in
         ap (λ (t : Taking). t .definitions ++ definitionsIn s (blocksFrom s z)) (sym t) ∙ sym (ap (definitionsIn s) (f .first)) ∙ block-over
 
 -- ---- paragraphs: what is left from place i on are all of them from place `at` on
@@ -153,7 +153,7 @@ module _ (s : List ℕ) (at i : ℕ) (inv : paragraphsFrom s i ≡ paragraphsFro
     this-and-others =
         let f = found-block s i is-block e in
         sym inv ∙ ap (paragraphsIn s) (f .first)
-        ∙ ap (λ (l : List Placed). l ++ paragraphsIn s (blocksFrom s z)) (its-paragraph s a z (omega (arith, f .some)) (f .inside) ∙ ap (paragraphFrom (take z s)) (sym rest))
+        ∙ ap (λ (l : List Placed). l ++ paragraphsIn s (blocksFrom s z)) (its-paragraph s a z (omega (arith, f .nonempty)) (f .inside) ∙ ap (paragraphFrom (take z s)) (sym rest))
 
     pub all-taken : z ≤ r → paragraphsFrom s z ≡ paragraphsFrom s at
     unfolding paragraphFrom
@@ -165,12 +165,12 @@ module _ (s : List ℕ) (at i : ℕ) (inv : paragraphsFrom s i ≡ paragraphsFro
         let f = found-block s i is-block e in
         let size : length (take z s) ≡ z = length-take-le z s (f .inside) in
         let w = end-within (take z s) in
-        let t = taking-takes (take z s) a (omega (arith, f .some)) in
+        let t = taking-takes (take z s) a (omega (arith, f .nonempty)) in
         record {
           first = rw (lt-leb (length (take z s)) r (omega arith), ← p, cut s r z (omega arith) (f .inside) n (omega arith)) at this-and-others;
           low = omega (arith, f .low, t .low);
           ordered = omega arith;
           ends = omega arith;
           inside = f .inside;
-          onward = omega (arith, f .low, f .some);
+          onward = omega (arith, f .low, f .nonempty);
         }

@@ -37,7 +37,7 @@ definitionsAfter s c = definitionsFrom (take (c .end) s) (c .at) .definitions ++
 pub record FirstBlock (s : List ℕ) (i a e : ℕ) : Type 0 where
   pub first : blocksFrom s i ≡ between s a e ∷ blocksFrom s e
   pub low : i ≤ a
-  pub some : a < e
+  pub nonempty : a < e
   pub inside : e ≤ length s
 
 abbrev pub IsBlock : List ℕ → ℕ → Block → Type 0

@@ -190,7 +190,7 @@ module _ {s u : List ℕ} {count : ℕ} (d : Spanned s u count) where
 
         pub text-run : (c′ ≡ p .at → ⊥) → Plain s e (p .at) c′
         text-run no′ = record {
-          some = omega (arith, is′, link-place-from link c (omega (arith, before)));
+          nonempty = omega (arith, is′, link-place-from link c (omega (arith, before)));
           inside = omega (arith, low, top);
           within = q .within;
           bare = λ j l m.

@@ -37,7 +37,7 @@ module _ {s : List ℕ} {e stop : ℕ} {p : Pass} (q : Plain s e (p .at) stop) {
 
   module _ {page : List ℕ} {w : Pass} (g : Runs s e p page₀ page w) where
     pub run-ends : stop ≤ w .at → Passes s e p page₀ w page
-    run-ends h = record { written = g .written; onward = omega (arith, q .some); same-code = g .same-code; same-link = g .same-link }
+    run-ends h = record { written = g .written; onward = omega (arith, q .nonempty); same-code = g .same-code; same-link = g .same-link }
 
     module _ (h : w .at < stop) where
       inside : w .at < length (take e s)

@@ -42,7 +42,7 @@ module _ (s : List ℕ) (e : ℕ) where
 
   -- from place i up to place k, within the paragraph, no row calls for anything
   pub record Plain (i k : ℕ) : Type 0 where
-    pub some : i < k
+    pub nonempty : i < k
     pub inside : k ≤ e
     pub within : e ≤ length s
     pub bare : (j : ℕ) → i ≤ j → j < k → Bare s (spanRows s) (take e s) 0 j
