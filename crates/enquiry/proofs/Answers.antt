@@ -15,7 +15,7 @@ use Rattle.scan.specs.declared.Found.the-variants as found
 use Rattle.text.specs.declared.Checked.{Checked}
 use Rattle.text.specs.declared.Checked.the-variants as checked
 use Rattle.text.specs.Reading.{firstBad, checkOf}
-use Rattle.text.proofs.Refusals.{check-long, check-bad, check-good, refused-2}
+use Rattle.text.proofs.Refusals.{check-long, check-bad, refused-2, good-note}
 use Rattle.text.proofs.FirstBad.{first-bad-nothing}
 use Rattle.text.proofs.Clean.{good-text}
 use Rattle.label.specs.Reading.{isLabel}
@@ -32,13 +32,6 @@ use Rattle.enquiry.specs.declared.Enquiry.the-variants as enquiry
 use Rattle.enquiry.specs.Law.{NoLabel, GoodLabel, DefinitionsOf, NoDefinition, Defines, Answers}
 use Rattle.enquiry.specs.Law as law
 use Rattle.enquiry.specs.Reading.{nowhere, goodLabel, answerBy, past-end, answerAt, answerIn, answerFor, checkedEnquiry, enquiryOf}
-
--- ---- the note
-pub good-note : (note : List ℕ) → (checkOf note ≡ checked.Good) ↔ GoodNote note
-good-note note = (
-  λ e. let w = check-good note .0 e in record { short = w .0; clean = good-text note .0 (w .1) },
-  λ g. check-good note .1 (g .short, good-text note .1 (g .clean)),
-)
 
 -- ---- the label
 was-nowhere : (f : Found) → nowhere f ≡ true → f ≡ found.Nothing

@@ -33,7 +33,7 @@ pub record Demand1 (note label : List ℕ) (at : Address) (note′ label′ answ
   pub line-7 : Given (numberOf enquiry) (valueOf enquiry) 7 (Due7 note label) (λ v. v ≡ 0)
   -- success, with the start of the destination of the first definition that has an equal label
   pub success :
-    Given (numberOf enquiry) (valueOf enquiry) 0 ((d : Definition) × Due0 note label d) (λ v. (d : Definition) × Defines note label d × (v ≡ d .destination .start))
+      Given (numberOf enquiry) (valueOf enquiry) 0 ((d : Definition) × Due0 note label d) (λ v. (d : Definition) × Defines note label d × (v ≡ d .destination .start))
   -- all of it at once
   pub answers : (e : Enquiry) → (enquiry ≡ e) ↔ Answers note label e
   -- "handed back as a part of the note itself, escapes undone nowhere"

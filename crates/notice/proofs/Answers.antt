@@ -13,8 +13,7 @@ use Rattle.scan.proofs.Test.{by}
 use Rattle.text.specs.declared.Checked.{Checked}
 use Rattle.text.specs.declared.Checked.the-variants as text
 use Rattle.text.specs.Reading.{checkOf}
-use Rattle.text.proofs.Clean.{good-text}
-use Rattle.text.proofs.Refusals.{check-long, check-bad, check-good, refused-2}
+use Rattle.text.proofs.Refusals.{check-long, check-bad, refused-2, good-note}
 use Rattle.marking.specs.Marking.{Marking}
 use Rattle.definition.specs.Reading.{definitions, paragraphs}
 use Rattle.definition.proofs.Notes.{note-iff, note-some}
@@ -32,12 +31,6 @@ use Rattle.notice.proofs.Order.{too-few-definitions, too-deep, too-few-
 
 -- ---- what is read is what the law counts
 module _ (s : List ℕ) where
-  pub good-note : (checkOf s ≡ text.Good) ↔ GoodNote s
-  good-note = (
-    (λ e. let w = check-good s .0 e in record { short = w .0; clean = good-text s .0 (w .1) }),
-    (λ g. check-good s .1 (g .short, good-text s .1 (g .clean))),
-  )
-
   pub definitions-counted : DefinitionsCounted s (length (definitions s))
   definitions-counted = record { definitions = definitions s; paragraphs = paragraphs s; note = note-some s; counted = refl }
 
