@@ -13,7 +13,7 @@ use Rattle.span.proofs.Filled.{store-next}
 use Rattle.inline.specs.Tails.{Tail}
 use Rattle.inline.specs.ReadingRows.{rowFor, spanRow}
 use Rattle.paragraph.specs.Rows.{storedAll}
-use Rattle.notice.specs.Reader.{spanNumbers, spansFilled}
+use Rattle.notice.specs.Promise.{spanNumbers, spansFilled}
 
 pub store-all : (t₀ : List ℕ) (passed xs : List Span) {t : List ℕ} {k : ℕ} → t ≡ filled passed t₀ → k ≡ length passed → storedAll t k xs ≡ filled (passed ++ xs) t₀
 unfolding storedAll

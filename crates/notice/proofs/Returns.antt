@@ -21,11 +21,12 @@ use Rattle.definition.specs.Reading.{definitions}
 use Rattle.table.proofs.Lookup.{table-fit}
 use Rattle.span.specs.Row as spanTable
 use Rattle.note.specs.Reading.{spanRows, firstDeep}
-use Rattle.paragraph.specs.declared.Marked.{Marked}
-use Rattle.paragraph.specs.declared.Marked.the-variants as marked
+use Rattle.paragraph.specs.declared.Tally.{Tally}
+use Rattle.paragraph.specs.declared.Tally.the-variants as tallies
+use Rattle.paragraph.specs.Tally as tally
 use Rattle.notice.specs.declared.Reading.{Reading}
 use Rattle.notice.specs.declared.Reading.the-variants.{Read, Long, Bad, FewDefinitions, Deep, FewSpans}
-use Rattle.notice.specs.Reader.{numberOf, withSpans, spansFilled, Promise}
+use Rattle.notice.specs.Promise.{numberOf, valueOf, definitionCount, spanCount, withSpans, spansFilled, definitionTableOf, spanTableOf, answerTo, Promise}
 use Rattle.notice.specs.Spans.{Defined, NoteMarked, SpansRead}
 use Rattle.notice.proofs.Order.{by-check, too-few-definitions, enough-definitions}
 use Rattle.notice.proofs.Turns.{was-spans, was-deep}
@@ -36,13 +37,13 @@ no-part (x ∷ part) t e = absurd (omega arith)
 
 -- ---- the spans
 -- they are counted, and nothing is stored
-module _ (s : List ℕ) (count : ℕ) {part : List ℕ} {r : Marked} (m : NoteMarked s [] r part) (u : List ℕ) where
-  pub too-many-open : {place : ℕ} → r ≡ marked.Deep place → length part ≡ 0 → SpansRead s count u (Deep place) (part ++ u)
+module _ (s : List ℕ) (count : ℕ) {part : List ℕ} {r : Tally} (m : NoteMarked s [] r part) (u : List ℕ) where
+  pub too-many-open : {place : ℕ} → r ≡ tallies.Deep place → length part ≡ 0 → SpansRead s count u (Deep place) (part ++ u)
   too-many-open {place} er e =
       let w : firstDeep s ≡ some place = was-deep (firstDeep s) (length (spanRows s)) (sym (m .answer) ∙ er) in
       record { answer = rw w refl; spans = no-part part u e }
 
-  module _ {n : ℕ} (er : r ≡ marked.Spans n) where
+  module _ {n : ℕ} (er : r ≡ tallies.Spans n) where
     never : firstDeep s ≡ none
     never = was-spans (firstDeep s) (length (spanRows s)) (sym (m .answer) ∙ er) .0
 
@@ -50,7 +51,7 @@ module _ (s : List ℕ) (count : ℕ) {part : List ℕ} {r : Marked} (m : NoteMa
     count-is = was-spans (firstDeep s) (length (spanRows s)) (sym (m .answer) ∙ er) .1
 
     back : part ++ u ≡ u
-    back = no-part part u (ap length (m .table never ∙ rows.filled-empty spanTable.width (λ (row : List ℕ). row) (spanRows s)))
+    back = no-part part u (ap length (m .table (ap tally.numberOf er) ∙ rows.filled-empty spanTable.width (λ (row : List ℕ). row) (spanRows s)))
 
     module _ {k : ℕ} (ek : k ≡ spanTable.wholeRows (part ++ u)) where
       rows-lent : k ≡ spanTable.wholeRows u
@@ -61,12 +62,26 @@ module _ (s : List ℕ) (count : ℕ) {part : List ℕ} {r : Marked} (m : NoteMa
           let z : spanTable.wholeRows u < n = omega (arith, rows-lent) in
           record { answer = rw (never, count-is, lt-ltb (spanTable.wholeRows u) n z) refl; spans = back }
 
-      pub all-stored : n ≤ k → {q : Marked} {u′ : List ℕ} → NoteMarked s (part ++ u) q u′ → SpansRead s count u (Read count n) u′
+      pub all-stored : n ≤ k → {q : Tally} {u′ : List ℕ} → NoteMarked s (part ++ u) q u′ → SpansRead s count u (Read count n) u′
       all-stored h z =
           let y : n ≤ spanTable.wholeRows u = omega (arith, rows-lent) in
-          record { answer = rw (never, count-is, le-ltb (spanTable.wholeRows u) n y) refl; spans = z .table never ∙ ap (spansFilled (spanRows s)) back }
+          record { answer = rw (never, count-is, le-ltb (spanTable.wholeRows u) n y) refl; spans = z .table (ap tally.numberOf (z .answer) ∙ rw never refl) ∙ ap (spansFilled (spanRows s)) back }
 
 -- ---- the whole note
+-- the answer tells its number, its value and the counts
+pub kept : {s t u : List ℕ} {r : Reading} {t′ u′ : List ℕ} → r ≡ answerTo s t u → t′ ≡ definitionTableOf s (numberOf r) t → u′ ≡ spanTableOf s (numberOf r) u → Promise s t u r s t′ u′
+kept e d n =
+    record {
+      answer = e;
+      number = ap numberOf e;
+      value = ap valueOf e;
+      definitions-counted = ap definitionCount e;
+      spans-counted = ap spanCount e;
+      definitions = d;
+      spans = n;
+      note = refl;
+    }
+
 module _ (s t u : List ℕ) {c : Checked} (ec : c ≡ checkOf s) where
   abbrev lent : ℕ
   lent = definitionTable.wholeRows t
@@ -75,10 +90,10 @@ module _ (s t u : List ℕ) {c : Checked} (ec : c ≡ checkOf s) where
   lent′ = spanTable.wholeRows u
 
   pub too-long : {n : ℕ} → c ≡ text.Long n → Promise s t u (Long n) s t u
-  too-long {n} e = record { answer = sym (by-check s lent lent′ (text.Long n) (sym ec ∙ e)); definitions = refl; spans = refl; note = refl }
+  too-long {n} e = kept (sym (by-check s lent lent′ (text.Long n) (sym ec ∙ e))) refl refl
 
   pub not-good : {k : ℕ} → c ≡ text.Bad k → Promise s t u (Bad k) s t u
-  not-good {k} e = record { answer = sym (by-check s lent lent′ (text.Bad k) (sym ec ∙ e)); definitions = refl; spans = refl; note = refl }
+  not-good {k} e = kept (sym (by-check s lent lent′ (text.Bad k) (sym ec ∙ e))) refl refl
 
 pub short : (s : List ℕ) {c : Checked} → c ≡ checkOf s → c ≡ text.Good → length s < 2 ^ 32
 short s ec e = omega (arith, check-good s .0 (sym ec ∙ e) .0)
@@ -104,13 +119,10 @@ module _ (s t u : List ℕ) {c : Checked} (ec : c ≡ checkOf s) (good : c ≡ t
   pub too-few : n < count → Promise s t u (FewDefinitions count) s (part ++ t) u
   too-few h =
       let z : definitionTable.wholeRows t < length (definitions s) = omega (arith, whole-rows, en) in
-      record {
-        answer = ap FewDefinitions en
-            ∙ sym (by-check s (definitionTable.wholeRows t) spans text.Good (sym ec ∙ good) ∙ too-few-definitions (length (definitions s)) (firstDeep s) (length (spanRows s)) (definitionTable.wholeRows t) spans z);
-        definitions = same;
-        spans = refl;
-        note = refl;
-      }
+      kept
+      (ap FewDefinitions en
+      ∙ sym (by-check s (definitionTable.wholeRows t) spans text.Good (sym ec ∙ good) ∙ too-few-definitions (length (definitions s)) (firstDeep s) (length (spanRows s)) (definitionTable.wholeRows t) spans z))
+      same refl
 
   module _ (h : count ≤ n) {t′ : List ℕ} (et : t′ ≡ definitionTable.filled (definitions s) (part ++ t)) where
     enough : length (definitions s) ≤ definitionTable.wholeRows t
@@ -130,10 +142,7 @@ module _ (s t u : List ℕ) {c : Checked} (ec : c ≡ checkOf s) (good : c ≡ t
     pub all-read : {r : Reading} {u′ : List ℕ} → SpansRead s count u r u′ → Promise s t u r s t′ u′
     all-read {r} m =
         let e : r ≡ withSpans (length (definitions s)) (firstDeep s) (length (spanRows s)) spans = m .answer ∙ rw en refl in
-        record {
-          answer = e
-              ∙ sym (by-check s (definitionTable.wholeRows t) spans text.Good (sym ec ∙ good) ∙ enough-definitions (length (definitions s)) (firstDeep s) (length (spanRows s)) (definitionTable.wholeRows t) spans enough);
-          definitions = table ∙ rw (e, rows-there (length (definitions s)) (firstDeep s) (length (spanRows s)) spans) refl;
-          spans = m .spans;
-          note = refl;
-        }
+        kept
+        (e
+        ∙ sym (by-check s (definitionTable.wholeRows t) spans text.Good (sym ec ∙ good) ∙ enough-definitions (length (definitions s)) (firstDeep s) (length (spanRows s)) (definitionTable.wholeRows t) spans enough))
+        (table ∙ rw (e, rows-there (length (definitions s)) (firstDeep s) (length (spanRows s)) spans) refl) (m .spans)

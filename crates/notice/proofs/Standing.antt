@@ -10,7 +10,7 @@ use Rattle.note.specs.Reading.{spanRows}
 use Rattle.note.proofs.EachRow.{each-row-iff}
 use Rattle.note.proofs.Placing.{at-getD}
 use Rattle.note.proofs.Fits.{rows-fit}
-use Rattle.notice.specs.Reader.{spanNumbers}
+use Rattle.notice.specs.Promise.{spanNumbers}
 use Rattle.notice.specs.Claims.{SpanRows}
 
 -- row k of the table is the note's span row k

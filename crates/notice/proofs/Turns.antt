@@ -2,7 +2,7 @@
 use Prim.Native.Nat.{ℕ, _+_, _-_, _≤_, _<_, _^_}
 use native.Mathlib.Omega.{arith}
 use mathlib.Core.Path.{_≡_, refl, sym, ap, _∙_, subst}
-use mathlib.Core.Option.{Option, none, some, Option·none-ne-some}
+use mathlib.Core.Option.{Option, none, some}
 use mathlib.Core.List.{List, [], _++_, map, map-append, append-nil, append-assoc}
 use lib.ListN.{length, drop, length-append, length-map, length-drop}
 use lib.Seq.{length-take-le}
@@ -23,22 +23,23 @@ use Rattle.inline.specs.Reading.{grammar}
 use Rattle.inline.specs.ReadingRows.{spanRow}
 use Rattle.note.specs.Reading.{labels, rowsIn, spanRows, deepIn, firstDeep}
 use Rattle.note.proofs.Bracket.{first-deep-bracket}
-use Rattle.paragraph.specs.declared.Marked.{Marked}
-use Rattle.paragraph.specs.declared.Marked.the-variants.{Deep, Spans}
-use Rattle.paragraph.specs.Tail.{labelsIn}
+use Rattle.paragraph.specs.declared.Tally.{Tally}
+use Rattle.paragraph.specs.declared.Tally.the-variants.{Deep, Spans}
+use Rattle.paragraph.specs.Tally.{numberOf, tallyOf}
+use Rattle.tail.specs.Ending.{labelsIn}
 use Rattle.paragraph.specs.Rows.{rowsFor}
 use Rattle.note.specs.Note.{depthLimit}
 use Rattle.paragraph.specs.Walk.{Lies, Reads}
-use Rattle.notice.specs.Spans.{Defined, markedBy, NoteMarked}
+use Rattle.notice.specs.Spans.{Defined, NoteMarked}
 use Rattle.notice.proofs.Few.{few-definitions}
 use Rattle.notice.proofs.Filling.{store-all, filled-numbers, numbers-for}
 
 -- ---- which of the two answers it was
-pub was-spans : (o : Option ℕ) (m : ℕ) {n : ℕ} → markedBy o m ≡ Spans n → (o ≡ none) × (m ≡ n)
+pub was-spans : (o : Option ℕ) (m : ℕ) {n : ℕ} → tallyOf o m ≡ Spans n → (o ≡ none) × (m ≡ n)
 was-spans none m e = (refl, cc)
 was-spans (some p) m e = let z : _≡_ {A = ℕ} 0 1 = cc in let no : ⊥ = omega arith in absurd no
 
-pub was-deep : (o : Option ℕ) (m : ℕ) {p : ℕ} → markedBy o m ≡ Deep p → o ≡ some p
+pub was-deep : (o : Option ℕ) (m : ℕ) {p : ℕ} → tallyOf o m ≡ Deep p → o ≡ some p
 was-deep none m e = let z : _≡_ {A = ℕ} 0 1 = cc in let no : ⊥ = omega arith in absurd no
 was-deep (some q) m e = cc
 
@@ -98,7 +99,7 @@ module _ (s u₀ : List ℕ) where
         rows = omega (arith, d .short, g .few, g .inside);
       }
 
-      module _ {t : List ℕ} {count : ℕ} (d : Defined s t count) {r : Marked} {u′ : List ℕ}
+      module _ {t : List ℕ} {count : ℕ} (d : Defined s t count) {r : Tally} {u′ : List ℕ}
           (m : Reads a (bytesOf s (range a e)) (labelsIn s t count) (definitionsFrom t 0 count) k u r u′) where
         abbrev p : List ℕ
         p = bytesOf s (range a e)
@@ -122,7 +123,7 @@ module _ (s u₀ : List ℕ) where
         pub too-deep : {place : ℕ} → r ≡ Deep place → NoteMarked s u₀ (Deep (a + place)) u′
         too-deep {place} er =
             let f : firstDeep s ≡ some (a + place) = first-too-many er in
-            record { answer = rw f refl; table = λ z. absurd (Option·none-ne-some (a + place) (sym z ∙ f)) }
+            record { answer = rw f refl; table = λ z. let no : ⊥ = omega arith in absurd no }
 
         pub further : {k′ : ℕ} → r ≡ Spans k′ → Going s u₀ u′ n k′
         unfolding rowsIn deepIn labels
@@ -140,7 +141,7 @@ module _ (s u₀ : List ℕ) where
                   (sym (append-assoc (map numbers (g .passed)) (map (spanRow a p ds) (spans (grammar p ls))) (rowsIn ls ds (paragraphsFrom s n))));
               deep-is = g .deep-is ∙ rw (here .first, o) refl;
               counted = omega (arith, c, l, g .counted, length-append (g .passed) xs);
-              table = read .table o ∙ store-all u₀ (g .passed) xs (g .table) (g .counted);
-              few = omega (arith, c, read .few o, size, g .few, here .low, here .ends, here .ordered);
+              table = read .table (ap numberOf er) ∙ store-all u₀ (g .passed) xs (g .table) (g .counted);
+              few = omega (arith, c, read .few (ap numberOf er), size, g .few, here .low, here .ends, here .ordered);
               inside = here .inside;
             }

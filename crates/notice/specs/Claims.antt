@@ -15,8 +15,8 @@ use Rattle.span.specs.Row as spanTable
 use Rattle.note.specs.Note.{EachRowOnce, FirstDeep}
 use Rattle.note.specs.Claims.{RefersTo}
 use Rattle.notice.specs.declared.Reading.{Reading}
-use Rattle.notice.specs.Law.{DefinitionsCounted, SpansCounted, Due0, Due1, Due2, Due3, Due4, Due5, Answers}
-use Rattle.notice.specs.Reader.{numberOf, valueOf, definitionCount, spanCount, spanNumbers}
+use Rattle.notice.specs.Answers.{DefinitionsCounted, SpansCounted, Due0, Due1, Due2, Due3, Due4, Due5, Answers}
+use Rattle.notice.specs.Promise.{numberOf, valueOf, definitionCount, spanCount, spanNumbers}
 
 -- Demand 1 of the answer r to the note s, where so many whole rows of each table are lent.
 pub record Demand1 (s : List ℕ) (definition-rows span-rows : ℕ) (r : Reading) : Type 0 where

@@ -1,5 +1,5 @@
-pub mod Law
-pub mod Reader
+pub mod Answers
+pub mod Promise
 pub mod Claims
 pub mod Spans
 pub mod Samples

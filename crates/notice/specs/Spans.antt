@@ -1,7 +1,6 @@
 -- The spans of all paragraphs, counted and stored.
 use Prim.Native.Nat.{ℕ, _≤_}
 use mathlib.Core.Path.{_≡_}
-use mathlib.Core.Option.{Option, none, some}
 use mathlib.Core.List.{List}
 use lib.ListN.{length}
 use Rattle.text.specs.Utf8.{noteLimit}
@@ -9,10 +8,10 @@ use Rattle.row.specs.Reading.{Fit, definitionsFrom}
 use Rattle.definition.specs.Reading.{definitions}
 use Rattle.span.specs.Row as spanTable
 use Rattle.note.specs.Reading.{spanRows, firstDeep}
-use Rattle.paragraph.specs.declared.Marked.{Marked}
-use Rattle.paragraph.specs.declared.Marked.the-variants.{Deep, Spans}
+use Rattle.paragraph.specs.declared.Tally.{Tally}
+use Rattle.paragraph.specs.Tally as tally
 use Rattle.notice.specs.declared.Reading.{Reading}
-use Rattle.notice.specs.Reader.{numberOf, spansFilled, withSpans, spanTableOf}
+use Rattle.notice.specs.Promise.{numberOf, spansFilled, withSpans, spanTableOf}
 
 -- the note is within the limit, and the first `count` rows of the table t are those of its definitions
 pub record Defined (s t : List ℕ) (count : ℕ) : Type 0 where
@@ -21,14 +20,10 @@ pub record Defined (s t : List ℕ) (count : ℕ) : Type 0 where
   pub counted : count ≡ length (definitions s)
   pub rows-are : definitionsFrom t 0 count ≡ definitions s
 
-abbrev pub markedBy : Option ℕ → ℕ → Marked
-markedBy (some place) n = Deep place
-markedBy none n = Spans n
-
 -- the place of the first bracket too many, or the number of spans, and then the table u has become u′
-pub record NoteMarked (s u : List ℕ) (r : Marked) (u′ : List ℕ) : Type 0 where
-  pub answer : r ≡ markedBy (firstDeep s) (length (spanRows s))
-  pub table : firstDeep s ≡ none → u′ ≡ spansFilled (spanRows s) u
+pub record NoteMarked (s u : List ℕ) (r : Tally) (u′ : List ℕ) : Type 0 where
+  pub answer : r ≡ tally.tallyOf (firstDeep s) (length (spanRows s))
+  pub table : tally.numberOf r ≡ 0 → u′ ≡ spansFilled (spanRows s) u
 
 -- the answer after refusals 1 to 3, where the note has `count` definitions, and the table u has become u′
 pub record SpansRead (s : List ℕ) (count : ℕ) (u : List ℕ) (r : Reading) (u′ : List ℕ) : Type 0 where

@@ -2,9 +2,9 @@
 pub mod answer;
 
 ghost use mathlib.Core.Path.{_≡_};
-ghost use Rattle.notice.specs.Reader.{Promise};
+ghost use Rattle.notice.specs.Promise.{Promise};
 ghost use Rattle.notice.specs.Spans.{Defined, NoteMarked, SpansRead};
-use paragraph::Marked;
+use paragraph::Tally;
 use text::Checked;
 use walk::Paragraph;
 
@@ -19,21 +19,33 @@ pub enum Reading {
 }
 
 // The spans of the note's paragraphs: stores their rows, as many as fit, and counts them; or the place of the first bracket too many.
-fn note_spans(note: &[u8], definitions: &[u32], count: usize, spans: &mut [u32]) -> Marked
+fn note_spans(note: &[u8], definitions: &[u32], count: usize, spans: &mut [u32]) -> Tally
     requires { ⌜ Defined (now note) (now definitions) count ⌝ }
     ensures { λ r. ⌜ NoteMarked (now (note .entry)) (now (spans .entry)) r (now (spans .exit)) ⌝ }
 {
+    let mut runs = [0usize; 256];
+    let mut marks = [0u8; 32769];
     let mut at = 0;
     let mut k = 0;
     loop {
         let Paragraph::At(start, end, next) = walk::next_paragraph(note, at) else {
-            return Marked::Spans(k);
+            return Tally::Spans(k);
         };
-        match paragraph::read_paragraph(note, start, end, definitions, count, spans, k) {
-            Marked::Deep(place) => {
-                return Marked::Deep(start + place);
+        match paragraph::read_paragraph(
+            note,
+            start,
+            end,
+            definitions,
+            count,
+            spans,
+            k,
+            &mut runs,
+            &mut marks,
+        ) {
+            Tally::Deep(place) => {
+                return Tally::Deep(start + place);
             }
-            Marked::Spans(n) => {
+            Tally::Spans(n) => {
                 k = n;
             }
         }
@@ -47,8 +59,8 @@ fn read_spans(note: &[u8], definitions: &[u32], count: usize, spans: &mut [u32])
     ensures { λ r. ⌜ SpansRead (now (note .entry)) count (now (spans .entry)) r (now (spans .exit)) ⌝ }
 {
     match note_spans(note, definitions, count, &mut spans[..0]) {
-        Marked::Deep(place) => Reading::Deep(place),
-        Marked::Spans(n) => {
+        Tally::Deep(place) => Reading::Deep(place),
+        Tally::Spans(n) => {
             if span::whole_rows(spans) < n {
                 return Reading::FewSpans(n);
             }

@@ -28,12 +28,14 @@ use Rattle.inline.specs.declared.InlineTail.{InlineTail}
 use Rattle.inline.specs.declared.InlineTail.the-variants as inlines
 use Rattle.inline.specs.Reading.{tailAt}
 use Rattle.inline.proofs.Computing.{tail-within}
-use Rattle.paragraph.specs.Tail.{labelsIn, shown, Names}
-use Rattle.paragraph.specs.Rows.{linkRow}
+use Rattle.parens.proofs.Parts.{part-whole}
+use Rattle.tail.specs.declared.Way.{Way}
+use Rattle.tail.specs.declared.Way.the-variants as ways
+use Rattle.tail.specs.declared.ReadTail.{ReadTail}
+use Rattle.tail.specs.Ending.{labelsIn, shownBy, shown}
+use Rattle.paragraph.specs.Rows.{linkRow, Names}
 use Rattle.paragraph.specs.Walk.{Pair, Bounds}
 use Rattle.paragraph.specs.declared.Walk.{Walk}
-use Rattle.paragraph.specs.declared.tail.Tail.{Tail as Tail′}
-use Rattle.paragraph.specs.declared.tail.Tail.the-variants as tails
 use Rattle.paragraph.proofs.LinkRows.{definition-in}
 use Rattle.paragraph.proofs.Pieces.{at-close}
 
@@ -151,14 +153,18 @@ module _ (start n : ℕ) (h : start + n < 2 ^ 32) where
           title = defined-small k _ l .1;
         }
 
-names-by : (count : ℕ) (table : List ℕ) (n at : ℕ) (t : Tail′) → Bounded count n (shown at t) → count ≤ wholeRows table → Names count table t
-names-by count table n at (tails.Inline q) b h = tt
-names-by count table n at (tails.Full size k) b h = (b, h)
-names-by count table n at (tails.Collapsed k) b h = (b, h)
-names-by count table n at (tails.Shortcut k) b h = (b, h)
+names-by : (count : ℕ) (table : List ℕ) (n at size : ℕ) (w : Way) → Bounded count n (shownBy at size w) → count ≤ wholeRows table → Names count table w
+names-by count table n at size (ways.Parts d t) b h = tt
+names-by count table n at size (ways.Full k) b h = (b, h)
+names-by count table n at size (ways.Collapsed k) b h = (b, h)
+names-by count table n at size (ways.Shortcut k) b h = (b, h)
 
 -- ---- at a pair with a tail
-module _ (p note table : List ℕ) (start count o : ℕ) (w : Walk) (pair : Pair p w o) (bounds : Bounds start p count w) (fit : Fit note table count) (t : Tail′)
+-- what follows the closing bracket at place c is the part of p from place c + 1 to its end
+pub tail-here : (p : List ℕ) (labels : List (List ℕ)) (o c : ℕ) → tailOf labels (take (c - o) (drop o p)) (take (length p - (c + 1)) (drop (c + 1) p)) (c + 1) ≡ tailAt p labels o c
+tail-here p labels o c = ap (λ (l : List ℕ). tailOf labels (take (c - o) (drop o p)) l (c + 1)) (part-whole p (c + 1))
+
+module _ (p note table : List ℕ) (start count o : ℕ) (w : Walk) (pair : Pair p w o) (bounds : Bounds start p count w) (fit : Fit note table count) (t : ReadTail)
     (e : some (shown (w .at + 1) t) ≡ tailAt p (labelsIn note table count) (o + 1) (w .at)) where
   bounded : Bounded count (length p) (shown (w .at + 1) t)
   bounded =
@@ -171,8 +177,8 @@ module _ (p note table : List ℕ) (start count o : ℕ) (w : Walk) (pair : Pair
       let q = at-close p (w .at) (pair .close-at) in
       rw q at (tail-within p (labelsIn note table count) (o + 1) (w .at) (shown (w .at + 1) t) (pair .inside) (ap (λ (x : Piece). role (x .kind)) q) (sym e))
 
-  pub row-names : Names count table t
-  row-names = names-by count table (length p) (w .at + 1) t bounded (fit .room)
+  pub row-names : Names count table (t .way)
+  row-names = names-by count table (length p) (w .at + 1) (t .length) (t .way) bounded (fit .room)
 
   pub row-small : ((i : ℕ) → getD table i 0 < 2 ^ 32) → Small (linkRow start (definitionsFrom table 0 count) o (w .at) (shown (w .at + 1) t))
   row-small small =

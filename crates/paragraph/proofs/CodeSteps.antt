@@ -3,6 +3,7 @@ use Prim.Native.Nat.{ℕ, _+_, _-_, _≤_, _<_, _^_}
 use native.Mathlib.Omega.{arith}
 use mathlib.Core.Path.{_≡_, sym, ap, _∙_}
 use mathlib.Core.List.{List}
+use mathlib.Core.Bool.{false}
 use borrow.Author.Tests.{eq-eqb}
 use lib.ListN.{length, getD, drop, length-drop}
 use Rattle.scan.specs.Reading.{run, past}
@@ -19,6 +20,7 @@ use Rattle.inline.specs.Pieces.{backtick}
 use Rattle.inline.specs.ReadingPieces.{closingRun, piece, spanOrText, ticked, pieceFrom}
 use Rattle.inline.proofs.Turns.{from-backticks}
 use Rattle.inline.proofs.PieceBounds.{closingRun-within, run-fits}
+use Rattle.ticks.proofs.Passing.{past-halts, past-some}
 use Rattle.inline.specs.ReadingRows.{rowFor}
 use Rattle.paragraph.specs.Walk.{BacktickAt}
 use Rattle.paragraph.specs.declared.Walk.{Walk}
@@ -38,6 +40,13 @@ module _ (p : List ℕ) (w : Walk) (b : BacktickAt p w) (first : ℕ) (ea : firs
 
   pub first-inside : first ≤ length p
   first-inside = omega (arith, b .inside, run-is, first-after, run-fits backtick (drop (w .at) p), length-drop (w .at) p)
+
+  -- what the search for the closing run asks
+  pub first-halts : backtick (getD p first 0) ≡ false
+  first-halts = rw ea (past-halts p (w .at))
+
+  pub first-some : 0 < first - w .at
+  first-some = omega (arith, past-some p (w .at) (b .inside) (b .tick), ea)
 
   ticks : pieceFrom p (w .at) ≡ spanOrText (w .at) first (closingRun n (drop first p) first)
   ticks =

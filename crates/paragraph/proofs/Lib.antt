@@ -1,5 +1,5 @@
-pub mod Tails
 pub mod LinkRows
+pub mod Marks
 pub mod Bounds
 pub mod Pieces
 pub mod Step
@@ -7,4 +7,3 @@ pub mod CodeSteps
 pub mod Loop
 pub mod Turns
 pub mod Plain
-pub mod Answer

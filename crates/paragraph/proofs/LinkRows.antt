@@ -12,17 +12,18 @@ use Rattle.row.specs.declared.Range.{Range}
 use Rattle.row.specs.declared.Definition.{Definition}
 use Rattle.row.specs.Row.{range, absent}
 use Rattle.row.specs.Reading.{definitionAt, definitionsFrom}
+use Rattle.span.specs.declared.Span.{Span}
 use Rattle.span.specs.Row.{span, Small}
-use Rattle.inline.specs.Tails as told
+use Rattle.inline.specs.Tails.{Tail, lengthOf}
 use Rattle.inline.specs.ReadingPieces.{piece}
 use Rattle.inline.specs.ReadingTails.{moved}
 use Rattle.inline.specs.Rows.{Target, fromNote?, defined, targetOf}
 use Rattle.inline.specs.ReadingRows.{kindNumber}
-use Rattle.paragraph.specs.Tail.{shown, Names}
-use Rattle.paragraph.specs.Rows.{linkRow}
-use Rattle.inline.specs.declared.InlineParts.{InlineParts}
-use Rattle.paragraph.specs.declared.tail.Tail.{Tail}
-use Rattle.paragraph.specs.declared.tail.Tail.the-variants.{Inline}
+use Rattle.tail.specs.declared.Way.{Way}
+use Rattle.tail.specs.declared.Way.the-variants.{Parts}
+use Rattle.tail.specs.declared.ReadTail.{ReadTail}
+use Rattle.tail.specs.Ending.{shownBy, shown, Sized}
+use Rattle.paragraph.specs.Rows.{linkRow, Names}
 
 -- ---- a part of a tail
 module _ (start at : ℕ) (r : Range) where
@@ -44,23 +45,31 @@ module _ (start o c : ℕ) (table : List ℕ) (count : ℕ) where
   definitions = definitionsFrom table 0 count
 
   abbrev target : Tail → Target
-  target t = targetOf start definitions (linkSpan (piece opens o (o + 1)) (piece closes c (c + 1)) (shown (c + 1) t))
+  target x = targetOf start definitions (linkSpan (piece opens o (o + 1)) (piece closes c (c + 1)) x)
 
-  pub link-row : {t u : Tail} {whole text : Range} {n : ℕ} (g : Target) → t ≡ u → whole ≡ range (start + o) (start + (c + 1 + n)) → n ≡ told.lengthOf (shown (c + 1) t)
-      → text ≡ range (start + (o + 1)) (start + c) → target u ≡ g
-      → span (kindNumber (linkSpan (piece opens o (o + 1)) (piece closes c (c + 1)) (shown (c + 1) u))) whole text (g .number) (g .destination) (g .title)
-      ≡ linkRow start definitions o c (shown (c + 1) t)
-  link-row g e ew en ex eg = let m = rw e at en in rw (e, ew, m, ex, ← eg)
+  abbrev rowBy : Tail → Range → Range → Target → Span
+  rowBy x whole text g = span (kindNumber (linkSpan (piece opens o (o + 1)) (piece closes c (c + 1)) x)) whole text (g .number) (g .destination) (g .title)
+
+  row-by : {x y : Tail} {whole text : Range} {n : ℕ} (g : Target) → y ≡ x → whole ≡ range (start + o) (start + (c + 1 + n)) → n ≡ lengthOf x → text ≡ range (start + (o + 1)) (start + c)
+      → target x ≡ g → rowBy x whole text g ≡ linkRow start definitions o c y
+  row-by g e ew en ex eg = rw (e, ew, en, ex, ← eg)
+
+  pub link-row : (t : ReadTail) {u : Way} {whole text : Range} (g : Target) → t .way ≡ u → Sized t → whole ≡ range (start + o) (start + (c + 1 + t .length))
+      → text ≡ range (start + (o + 1)) (start + c) → target (shownBy (c + 1) (t .length) u) ≡ g
+      → rowBy (shownBy (c + 1) (t .length) u) whole text g ≡ linkRow start definitions o c (shown (c + 1) t)
+  link-row t g e s ew ex eg =
+      let q = ap (shownBy (c + 1) (t .length)) e in
+      row-by g q ew (s (c + 1) ∙ ap lengthOf q) ex eg
 
   pub defined-by : {k : ℕ} {d : Definition} → k < count → d ≡ definitionAt table k → defined definitions k ≡ record { number = k + 1; destination = d .destination; title = d .title }
   defined-by {k} h e = rw (definition-in table 0 count k _ h, zero-add, e)
 
-  pub inline-by : (q : InlineParts) {d t : Range} → d ≡ fromNote? start (moved (c + 1) (q .destination)) → t ≡ fromNote? start (moved (c + 1) (q .title))
-      → target (Inline q) ≡ record { number = 0; destination = d; title = t }
-  inline-by q ed et = rw (ed, et)
+  pub inline-by : (n : ℕ) (d t : Range) {d′ t′ : Range} → d′ ≡ fromNote? start (moved (c + 1) d) → t′ ≡ fromNote? start (moved (c + 1) t)
+      → target (shownBy (c + 1) n (Parts d t)) ≡ record { number = 0; destination = d′; title = t′ }
+  inline-by n d t ed et = rw (ed, et)
 
-  pub small-as : {t u : Tail} → t ≡ u → Small (linkRow start definitions o c (shown (c + 1) t)) → Small (linkRow start definitions o c (shown (c + 1) u))
-  small-as e = subst (λ (x : Tail). Small (linkRow start definitions o c (shown (c + 1) x))) e
+  pub small-as : (t : ReadTail) {u : Way} → t .way ≡ u → Small (linkRow start definitions o c (shown (c + 1) t)) → Small (linkRow start definitions o c (shownBy (c + 1) (t .length) u))
+  small-as t e = subst (λ (x : Way). Small (linkRow start definitions o c (shownBy (c + 1) (t .length) x))) e
 
-  pub names-as : {t u : Tail} → t ≡ u → Names count table t → Names count table u
+  pub names-as : {v u : Way} → v ≡ u → Names count table v → Names count table u
   names-as e = subst (Names count table) e

@@ -26,7 +26,7 @@ use Rattle.inline.proofs.Computing.{sound}
 use Rattle.paragraph.specs.Rows.{storedAll}
 use Rattle.paragraph.specs.Walk.{spansAt, Steps, Reads}
 use Rattle.paragraph.specs.declared.Walk.{Walk}
-use Rattle.paragraph.specs.declared.Marked.the-variants.{Spans}
+use Rattle.paragraph.specs.declared.Tally.the-variants.{Spans}
 
 -- ---- rows stored one after the other
 pub stored-more : (t : List ℕ) (k : ℕ) (xs ys : List Span) → storedAll (storedAll t k xs) (k + length xs) ys ≡ storedAll t k (xs ++ ys)

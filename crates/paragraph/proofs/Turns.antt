@@ -5,7 +5,7 @@ use native.Mathlib.Omega.{arith}
 use native.Mathlib.Decide.{ℕ-discrete}
 use mathlib.Core.Path.{_≡_, refl, sym, ap, _∙_}
 use mathlib.Core.Bool.{true, false, _&&_}
-use mathlib.Core.Option.{Option, some, Option·none-ne-some}
+use mathlib.Core.Option.{Option, some}
 use mathlib.Core.List.{List, [], _∷_, reverse, reverse-append, tail}
 use borrow.Author.Tests.{eq-eqb, ne-eqb, eqb-true, lt-leb, le-leb, ltb-true, ltb-false}
 use lib.Dec.{eqb, ltb}
@@ -30,9 +30,10 @@ use Rattle.inline.specs.ReadingPieces.{closingRun, piece, spanOrText, pieceFrom
 use Rattle.inline.proofs.Turns.{from-escape, from-backticks, from-byte}
 use Rattle.inline.specs.Reading.{grammar}
 use Rattle.paragraph.specs.Walk as walk
-use Rattle.paragraph.specs.Walk.{Steps, Reads, markedBy, Pair, Bounds, Lies}
+use Rattle.paragraph.specs.Tally.{tallyOf}
+use Rattle.paragraph.specs.Walk.{Steps, Reads, Pair, Bounds, Lies}
 use Rattle.paragraph.specs.declared.Walk.{Walk}
-use Rattle.paragraph.specs.declared.Marked.the-variants.{Deep}
+use Rattle.paragraph.specs.declared.Tally.the-variants.{Deep}
 use Rattle.paragraph.proofs.Pieces.{at-open, at-close}
 use Rattle.paragraph.proofs.Step.{step-quiet}
 use Rattle.paragraph.proofs.Loop.{Waits, On, on-next, on-less}
@@ -133,9 +134,9 @@ module _ (offset : ℕ) (p : List ℕ) (labels : List (List ℕ)) (ds : List Def
         let q : over depthLimit (grammar p labels) ≡ some (w .at) =
         sym (o .same-over) ∙ overs-deep depthLimit (grammar p labels) (record { place = w .at; stack = waiting; last-link = w .last; spans = o .xs }) h (ap (tooDeep depthLimit waiting) opens-here ∙ le-leb depthLimit (length waiting) (omega (arith, waiting-length))) in
         record {
-          answer = sym (ap (λ (x : Option ℕ). markedBy offset p labels ds x (k + length (spans (grammar p labels)))) q);
-          table = λ z. absurd (Option·none-ne-some (w .at) (sym z ∙ q));
-          few = λ z. absurd (Option·none-ne-some (w .at) (sym z ∙ q));
+          answer = sym (ap (λ (x : Option ℕ). tallyOf x (k + length (spans (grammar p labels)))) q);
+          table = λ z. let no : ⊥ = omega arith in absurd no;
+          few = λ z. let no : ⊥ = omega arith in absurd no;
         }
 
   -- ---- a `]` with the last `[` that waits

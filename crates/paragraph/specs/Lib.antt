@@ -1,5 +1,4 @@
-pub mod Tail
 pub mod Rows
+pub mod Tally
 pub mod Walk
-pub mod Claims
 pub mod Samples

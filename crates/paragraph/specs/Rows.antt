@@ -1,20 +1,33 @@
 -- The rows of a paragraph's spans, and a table in which they are stored as far as they fit.
-use Prim.Native.Nat.{ℕ, _+_}
+use Prim.Native.Nat.{ℕ, _+_, _≤_, _<_}
 use mathlib.Core.List.{List, [], _∷_, map}
 use Rattle.marking.specs.Marking.{opens, closes}
 use Rattle.marking.specs.Spans as marked
 use Rattle.marking.specs.ReadingSpans.{spans}
 use Rattle.row.specs.declared.Definition.{Definition}
+use Rattle.row.specs.Row.{wholeRows}
 use Rattle.span.specs.declared.Span.{Span}
 use Rattle.span.specs.Row.{stored}
 use Rattle.inline.specs.Tails.{Tail}
 use Rattle.inline.specs.ReadingPieces.{piece}
 use Rattle.inline.specs.Reading.{grammar}
+use Rattle.tail.specs.declared.Way.{Way}
+use Rattle.tail.specs.declared.Way.the-variants.{Parts, Full, Collapsed, Shortcut}
 use Rattle.inline.specs.ReadingRows.{rowFor}
 
 -- the row of a link from its `[` at place o and its `]` at place c
 abbrev pub linkRow : ℕ → List Definition → ℕ → ℕ → Tail → Span
 linkRow offset ds o c t = rowFor offset [] ds (marked.linkSpan (piece opens o (o + 1)) (piece closes c (c + 1)) t)
+
+-- the definition that a tail names, if any, is one of the first `count` rows of the table
+abbrev pub InRows : ℕ → List ℕ → ℕ → Type 0
+InRows count t k = (k < count) × (count ≤ wholeRows t)
+
+abbrev pub Names : ℕ → List ℕ → Way → Type 0
+Names count t (Parts d e) = Unit {0}
+Names count t (Full k) = InRows count t k
+Names count t (Collapsed k) = InRows count t k
+Names count t (Shortcut k) = InRows count t k
 
 -- of all spans that are read, in order
 abbrev pub rowsFor : ℕ → List ℕ → List (List ℕ) → List Definition → List Span

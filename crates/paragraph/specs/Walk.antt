@@ -1,7 +1,6 @@
 -- One step of the code through a paragraph, and what the whole reading answers.
 use Prim.Native.Nat.{ℕ, _+_, _≤_, _<_, _^_}
 use mathlib.Core.Path.{_≡_}
-use mathlib.Core.Option.{Option, none, some}
 use mathlib.Core.List.{List, [], _∷_, map}
 use lib.ListN.{length, getD}
 use Rattle.note.specs.Note.{depthLimit}
@@ -14,8 +13,8 @@ use Rattle.inline.specs.Reading.{grammar}
 use Rattle.inline.specs.ReadingRows.{rowFor}
 use Rattle.paragraph.specs.Rows.{rowsFor, storedAll}
 use Rattle.paragraph.specs.declared.Walk.{Walk}
-use Rattle.paragraph.specs.declared.Marked.{Marked}
-use Rattle.paragraph.specs.declared.Marked.the-variants.{Deep, Spans}
+use Rattle.paragraph.specs.declared.Tally.{Tally}
+use Rattle.paragraph.specs.Tally.{numberOf, tallyOf}
 
 -- a `[` at place o and a `]` at the walk's place
 pub record Pair (p : List ℕ) (w : Walk) (o : ℕ) : Type 0 where
@@ -69,13 +68,9 @@ Passes offset p v t w u = (labels : List (List ℕ)) (ds : List Definition) → 
 
 module _ (offset : ℕ) (p : List ℕ) (labels : List (List ℕ)) (ds : List Definition) where
   -- ---- the whole paragraph
-  abbrev pub markedBy : Option ℕ → ℕ → Marked
-  markedBy (some place) n = Deep place
-  markedBy none n = Spans n
-
   -- from row k on: the first bracket too many, or the row after the last span's, and then the table with the rows of all spans
-  pub record Reads (k : ℕ) (t : List ℕ) (r : Marked) (u : List ℕ) : Type 0 where
-    pub answer : r ≡ markedBy (over depthLimit (grammar p labels)) (k + length (spans (grammar p labels)))
-    pub table : over depthLimit (grammar p labels) ≡ none → u ≡ storedAll t k (rowsFor offset p labels ds)
+  pub record Reads (k : ℕ) (t : List ℕ) (r : Tally) (u : List ℕ) : Type 0 where
+    pub answer : r ≡ tallyOf (over depthLimit (grammar p labels)) (k + length (spans (grammar p labels)))
+    pub table : numberOf r ≡ 0 → u ≡ storedAll t k (rowsFor offset p labels ds)
     -- no span is empty
-    pub few : over depthLimit (grammar p labels) ≡ none → length (spans (grammar p labels)) ≤ length p
+    pub few : numberOf r ≡ 0 → length (spans (grammar p labels)) ≤ length p

@@ -6,12 +6,12 @@ ghost use Rattle.row.specs.Reading.{definitionsFrom};
 ghost use Rattle.span.specs.Row.{Small};
 ghost use Rattle.inline.specs.ReadingTails.{moved};
 ghost use Rattle.inline.specs.Rows.{fromNote?};
-ghost use Rattle.paragraph.specs.Tail.{Names, shown};
-ghost use Rattle.paragraph.specs.Rows.{linkRow};
-use crate::tail;
-use crate::tail::Tail;
+ghost use Rattle.tail.specs.Ending.{shown, Sized};
+ghost use Rattle.paragraph.specs.Rows.{linkRow, Names};
 use row::Range;
 use span::Span;
+use tail::ReadTail;
+use tail::Way;
 
 // The part `r` of a tail that starts at place `at` of the paragraph, which starts at `start`.
 fn part_in_note(start: usize, at: usize, r: Range) -> Range
@@ -29,39 +29,35 @@ pub fn link_row(
     start: usize,
     opening: usize,
     closing: usize,
-    t: Tail,
+    t: ReadTail,
     definitions: &[u32],
     count: usize,
 ) -> Span
-    requires { ⌜ Names count (now definitions) t ⌝ }
+    requires { ⌜ Names count (now definitions) (t .way) ⌝ }
+    requires { ⌜ Sized t ⌝ }
     requires { ⌜ Small (linkRow start (definitionsFrom (now definitions) 0 count) opening closing (shown (closing + 1) t)) ⌝ }
     ensures { λ r. ⌜ r ≡ linkRow start (definitionsFrom (now (definitions .entry)) 0 count) opening closing (shown (closing + 1) t) ⌝ }
 {
-    let whole = Range::new(
-        start + opening,
-        start + (closing + 1 + tail::tail_length(t)),
-    );
+    let length = t.length;
+    let whole = Range::new(start + opening, start + (closing + 1 + length));
     let text = Range::new(start + (opening + 1), start + closing);
-    match t {
-        Tail::Inline(q) => {
-            let destination = q.destination;
-            let title = q.title;
-            Span::inline(
-                whole,
-                text,
-                part_in_note(start, closing + 1, destination),
-                part_in_note(start, closing + 1, title),
-            )
-        }
-        Tail::Full(_, k) => {
+    let way = t.way;
+    match way {
+        Way::Parts(destination, title) => Span::inline(
+            whole,
+            text,
+            part_in_note(start, closing + 1, destination),
+            part_in_note(start, closing + 1, title),
+        ),
+        Way::Full(k) => {
             let d = row::definition_at(definitions, k);
             Span::full(whole, text, k, d.destination, d.title)
         }
-        Tail::Collapsed(k) => {
+        Way::Collapsed(k) => {
             let d = row::definition_at(definitions, k);
             Span::collapsed(whole, text, k, d.destination, d.title)
         }
-        Tail::Shortcut(k) => {
+        Way::Shortcut(k) => {
             let d = row::definition_at(definitions, k);
             Span::shortcut(whole, text, k, d.destination, d.title)
         }

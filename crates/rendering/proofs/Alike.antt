@@ -8,7 +8,7 @@ use lib.Dec.{ltb}
 use Rattle.scan.proofs.Test.{by}
 use Rattle.notice.specs.declared.Reading.{Reading}
 use Rattle.notice.specs.declared.Reading.the-variants.{Read, Long, Bad, FewDefinitions, Deep, FewSpans}
-use Rattle.notice.specs.Reader as reader
+use Rattle.notice.specs.Promise as reader
 use Rattle.rendering.specs.declared.Rendering.{Rendering}
 use Rattle.rendering.specs.Renderer.{numberOf, valueOf, definitionCount, spanCount, afterReading}
 

@@ -10,8 +10,8 @@ use Rattle.scan.proofs.Test.{by}
 use Rattle.page.specs.Reading.{pageOf}
 use Rattle.page.proofs.Page.{page-iff}
 use Rattle.notice.specs.declared.Reading.{Reading}
-use Rattle.notice.specs.Law as reader
-use Rattle.notice.specs.Reader.{readingOf}
+use Rattle.notice.specs.Answers as reader
+use Rattle.notice.specs.Promise.{readingOf}
 use Rattle.notice.proofs.Answers as reader-answers
 use Rattle.rendering.specs.declared.Rendering.{Rendering}
 use Rattle.rendering.specs.Law.{PageMeasured, Answers, long, bad, few-definitions, deep, few-spans, short-page, rendered}

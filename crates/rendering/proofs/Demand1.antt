@@ -7,8 +7,8 @@ use lib.ListN.{length}
 use Rattle.refusal.specs.Given.{Given}
 use Rattle.page.specs.Reading.{pageOf}
 use Rattle.notice.specs.declared.Reading.{Reading}
-use Rattle.notice.specs.Law.{DefinitionsCounted, SpansCounted}
-use Rattle.notice.specs.Reader as reader
+use Rattle.notice.specs.Answers.{DefinitionsCounted, SpansCounted}
+use Rattle.notice.specs.Promise as reader
 use Rattle.notice.proofs.Demand1 as reader-answers
 use Rattle.rendering.specs.declared.Rendering.{Rendering}
 use Rattle.rendering.specs.Law.{PageMeasured, Due0, Due6, Answers, long, bad, few-definitions, deep, few-spans, short-page, rendered}

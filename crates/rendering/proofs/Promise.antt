@@ -16,7 +16,7 @@ use Rattle.page.specs.Reading.{pageBy, pageOf}
 use Rattle.page.proofs.Page.{page-iff}
 use Rattle.page.proofs.ByRows.{page-by-rows}
 use Rattle.notice.specs.declared.Reading.{Reading}
-use Rattle.notice.specs.Reader as reader
+use Rattle.notice.specs.Promise as reader
 use Rattle.notice.specs.Claims.{DefinitionRows, SpanRows}
 use Rattle.notice.proofs.Promise as reader-promise
 use Rattle.rendering.specs.declared.Rendering.{Rendering}

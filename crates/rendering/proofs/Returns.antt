@@ -18,7 +18,7 @@ use Rattle.page.specs.Reading.{pageOf}
 use Rattle.cursor.specs.Spanned.{Spanned}
 use Rattle.notice.specs.declared.Reading.{Reading}
 use Rattle.notice.specs.declared.Reading.the-variants as reader-variants
-use Rattle.notice.specs.Reader as reader
+use Rattle.notice.specs.Promise as reader
 use Rattle.notice.specs.Claims.{SpanRows}
 use Rattle.notice.proofs.Answers.{span-count}
 use Rattle.notice.proofs.Promise as reader-promise

@@ -10,8 +10,8 @@ use Rattle.note.specs.Note.{FirstDeep}
 use Rattle.page.specs.Page.{PageIs}
 use Rattle.page.specs.Reading.{pageBy}
 use Rattle.notice.specs.declared.Reading.{Reading}
-use Rattle.notice.specs.Law.{DefinitionsCounted, SpansCounted, Due1, Due2, Due3, Due4, Due5}
-use Rattle.notice.specs.Reader as reader
+use Rattle.notice.specs.Answers.{DefinitionsCounted, SpansCounted, Due1, Due2, Due3, Due4, Due5}
+use Rattle.notice.specs.Promise as reader
 use Rattle.notice.specs.Claims.{DefinitionRows, SpanRows}
 use Rattle.rendering.specs.declared.Rendering.{Rendering}
 use Rattle.rendering.specs.Law.{PageMeasured, Due0, Due6, Answers}

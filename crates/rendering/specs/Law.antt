@@ -6,8 +6,8 @@ use lib.ListN.{length}
 use Rattle.text.specs.Utf8.{FirstBad}
 use Rattle.note.specs.Note.{FirstDeep}
 use Rattle.page.specs.Page.{PageIs}
-use Rattle.notice.specs.Law.{Fewer, Enough, Due1, Due2, Due3, Due4, Due5}
-use Rattle.notice.specs.Law as reader
+use Rattle.notice.specs.Answers.{Fewer, Enough, Due1, Due2, Due3, Due4, Due5}
+use Rattle.notice.specs.Answers as reader
 use Rattle.rendering.specs.declared.Rendering.{Rendering}
 use Rattle.rendering.specs.declared.Rendering.the-variants.{Rendered, Long, Bad, FewDefinitions, Deep, FewSpans, ShortPage}
 

@@ -10,7 +10,7 @@ use Rattle.span.specs.Row as spanTable
 use Rattle.page.specs.Reading.{pageOf}
 use Rattle.notice.specs.declared.Reading.{Reading}
 use Rattle.notice.specs.declared.Reading.the-variants as reader
-use Rattle.notice.specs.Reader.{readingOf, definitionTableOf, spanTableOf}
+use Rattle.notice.specs.Promise.{readingOf, definitionTableOf, spanTableOf}
 use Rattle.rendering.specs.declared.Rendering.{Rendering}
 use Rattle.rendering.specs.declared.Rendering.the-variants.{Rendered, Long, Bad, FewDefinitions, Deep, FewSpans, ShortPage}
 

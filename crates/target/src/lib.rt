@@ -13,9 +13,9 @@ pub enum Part {
 }
 
 // Where a run ends, and how many parentheses it leaves open.
-struct Run {
-    end: usize,
-    depth: usize,
+pub struct Run {
+    pub end: usize,
+    pub depth: usize,
 }
 
 // The place after spaces, tabs and at most one LF.
@@ -36,7 +36,7 @@ pub fn space_end(s: &[u8], at: usize) -> usize
 }
 
 // How many parentheses are open after `b`, a byte of the run.
-fn depth_after(depth: usize, b: u8, inside: bool) -> usize
+pub fn depth_after(depth: usize, b: u8, inside: bool) -> usize
     requires { ⌜ (halts depth b inside ≡ false) × (depth + 1 < 2 ^ 64) ⌝ }
     ensures { λ r. ⌜ r ≡ depthAfter depth b inside ⌝ }
 {
@@ -69,7 +69,7 @@ fn raw_run(s: &[u8], at: usize) -> Run
 }
 
 // The run as a destination: nonempty, with all parentheses closed.
-fn raw_part(at: usize, run: Run) -> Part
+pub fn raw_part(at: usize, run: Run) -> Part
     ensures { λ r. ⌜ r ≡ judged at run ⌝ }
 {
     let end = run.end;

@@ -1,7 +1,9 @@
 -- Each turn reads a paragraph.
 use borrow.Author.Needs.{needs}
-use Prim.Native.Nat.{_-_}
-use lib.ListN.{length}
+use Prim.Native.Nat.{ℕ, _-_}
+use native.Mathlib.Omega.{arith}
+use mathlib.Core.Path.{_≡_}
+use lib.ListN.{length, length-replicate}
 use Rattle.notice.proofs.Turns.{Going, starts, same-size, still-same-size, all-passed, less, place-fits, place-within, too-deep, further}
 use Rattle.notice.proofs.note_spans.Statement.{statement}
 use Rattle.notice.proofs.note_spans.Tie as tie
@@ -9,13 +11,13 @@ use Rattle.notice.proofs.note_spans.Tie as tie
 ruleset turns = (starts, same-size, still-same-size, all-passed, less, place-fits, place-within, too-deep, further, needs)
 
 abbrev Inv-loop : tie.InvT-loop
-Inv-loop note definitions count spans₀ at₀ k₀ spans at k = Going note spans₀ spans at k
+Inv-loop note definitions count spans₀ runs₀ marks₀ at₀ k₀ spans runs marks at k = Going note spans₀ spans at k × (length marks ≡ 32769)
 
 abbrev μ-loop : tie.MeasureT-loop
-μ-loop note definitions count spans₀ at₀ k₀ spans at k = length note - at
+μ-loop note definitions count spans₀ runs₀ marks₀ at₀ k₀ spans runs marks at k = length note - at
 
 loop-holds : tie.Need-loop-holds Inv-loop μ-loop
-loop-holds c = search turns
+loop-holds c = (search turns, length-replicate {A = ℕ} 32769 0)
 
 next-paragraph-requires : tie.Need-next-paragraph-requires Inv-loop μ-loop
 next-paragraph-requires c κs = search turns
@@ -32,14 +34,17 @@ same-length c = search turns
 returns : tie.Need-returns Inv-loop μ-loop
 returns c = search turns
 
+slice-aggregate-read-paragraph : tie.Need-slice-aggregate-read-paragraph Inv-loop μ-loop
+slice-aggregate-read-paragraph c = search turns
+
 read-paragraph-requires : tie.Need-read-paragraph-requires Inv-loop μ-loop
-read-paragraph-requires c κs = search turns
+read-paragraph-requires c κs = (search turns, (search turns, omega (arith, c .before .before .before .before .before .before .before .before .before .before .before .pre .short, c .before .before .before .before .before .before .before .loop .inv .1)))
 
 enum-known-place : tie.Need-enum-known-place Inv-loop μ-loop
 enum-known-place c = search turns
 
-add-t16 : tie.Need-add-t16 Inv-loop μ-loop
-add-t16 c = search turns
+add-t21 : tie.Need-add-t21 Inv-loop μ-loop
+add-t21 c = search turns
 
 same-length-2 : tie.Need-same-length-2 Inv-loop μ-loop
 same-length-2 c = search turns
@@ -54,7 +59,7 @@ loop-less : tie.Need-loop-less Inv-loop μ-loop
 loop-less c = search turns
 
 loop-again : tie.Need-loop-again Inv-loop μ-loop
-loop-again c = search turns
+loop-again c = (search turns, search turns)
 
 pub note-spans-spec : {M : Type 1} → statement M
 note-spans-spec =
@@ -68,9 +73,10 @@ note-spans-spec =
     enum-told
     same-length
     returns
+    slice-aggregate-read-paragraph
     read-paragraph-requires
     enum-known-place
-    add-t16
+    add-t21
     same-length-2
     returns-2
     enum-known-n

@@ -24,17 +24,17 @@ returns c = search needs
 escape-at-requires : tie.Need-escape-at-requires
 escape-at-requires c κs = search needs
 
-add-t14 : tie.Need-add-t14
-add-t14 c = search needs
+add-t16 : tie.Need-add-t16
+add-t16 c = search needs
 
 returns-2 : tie.Need-returns-2
-returns-2 c labels ds = let a = c .before .before .before .before .before .before .args in step-quiet _ _ labels ds (a .w) _ _ (from-escape (a .p .now) (a .w .at) (sym (c .before .escape-at .ensures) ∙ c .if2 .taken)) refl
+returns-2 c = ((λ labels ds. let a = c .before .before .before .before .before .before .args in step-quiet _ _ labels ds (a .w) _ _ (from-escape (a .p .now) (a .w .at) (sym (c .before .escape-at .ensures) ∙ c .if2 .taken)) refl), c .before .before .before .before .before .before .pre .1 .1)
 
-add-t15 : tie.Need-add-t15
-add-t15 c = search needs
+add-t17 : tie.Need-add-t17
+add-t17 c = search needs
 
 returns-3 : tie.Need-returns-3
-returns-3 c labels ds = let a = c .before .before .before .before .before .before .args in step-quiet _ _ labels ds (a .w) _ _ (from-byte (a .p .now) (a .w .at) (sym (c .before .escape-at .ensures) ∙ c .if2 .left) (ne-eqb _ 96 (c .before .before .if1 .left))) (byte-no-code (getD (a .p .now) (a .w .at) 0))
+returns-3 c = ((λ labels ds. let a = c .before .before .before .before .before .before .args in step-quiet _ _ labels ds (a .w) _ _ (from-byte (a .p .now) (a .w .at) (sym (c .before .escape-at .ensures) ∙ c .if2 .left) (ne-eqb _ 96 (c .before .before .if1 .left))) (byte-no-code (getD (a .p .now) (a .w .at) 0))), c .before .before .before .before .before .before .pre .1 .1)
 
 pub pass-piece-spec : {M : Type 1} → statement M
 pass-piece-spec =
@@ -45,7 +45,7 @@ pass-piece-spec =
     same-length
     returns
     escape-at-requires
-    add-t14
+    add-t16
     returns-2
-    add-t15
+    add-t17
     returns-3)

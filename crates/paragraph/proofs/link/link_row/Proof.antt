@@ -8,91 +8,88 @@ use Rattle.paragraph.proofs.link.link_row.Statement.{statement}
 use Rattle.paragraph.proofs.link.link_row.Tie as tie
 
 add-new : tie.Need-add-new
-add-new c = let s = c .before .pre .1 in let w = s .whole in omega arith
+add-new c = search needs
 
 add-new-2 : tie.Need-add-new-2
-add-new-2 c = let s = c .before .pre .1 in let w = s .whole in omega arith
-
-tail-length-requires : tie.Need-tail-length-requires
-tail-length-requires c κs = search needs
+add-new-2 c = search needs
 
 add-new-3 : tie.Need-add-new-3
-add-new-3 c = let w = c .before .before .pre .1 .whole in omega (arith, c .tail-length .ensures (c .before .before .args .closing + 1))
+add-new-3 c = let w = c .before .pre .1 .1 .whole in omega (arith, c .before .pre .1 .0 (c .before .args .closing + 1))
 
 add-new-4 : tie.Need-add-new-4
-add-new-4 c = let w = c .before .before .pre .1 .whole in omega (arith, c .tail-length .ensures (c .before .before .args .closing + 1))
+add-new-4 c = let w = c .before .pre .1 .1 .whole in omega (arith, c .before .pre .1 .0 (c .before .args .closing + 1))
 
 new-requires : tie.Need-new-requires
 new-requires c κs = search needs
 
 add-new-5 : tie.Need-add-new-5
-add-new-5 c = let w = c .before .before .before .pre .1 .text in omega arith
+add-new-5 c = search needs
 
 add-new-6 : tie.Need-add-new-6
-add-new-6 c = let w = c .before .before .before .pre .1 .text in omega arith
+add-new-6 c = search needs
 
 add-new-7 : tie.Need-add-new-7
-add-new-7 c = let w = c .before .before .before .pre .1 .text in omega arith
+add-new-7 c = search needs
 
 new-requires-2 : tie.Need-new-requires-2
 new-requires-2 c κs = search needs
 
-enum-known-t : tie.Need-enum-known-t
-enum-known-t c = search needs
+enum-known-way : tie.Need-enum-known-way
+enum-known-way c = search needs
 
 add-part-in-note : tie.Need-add-part-in-note
-add-part-in-note c = let w = c .before .before .before .before .before .before .before .before .before .pre .1 .whole in omega arith
+add-part-in-note c = search needs
 
 part-in-note-requires : tie.Need-part-in-note-requires
-part-in-note-requires c κs = small-as _ _ _ _ _ (c .before .before .before .t .given .1) (c .before .before .before .before .before .before .before .before .before .pre .1) .destination
+part-in-note-requires c κs = small-as (c .before .before .before .before .before .before .args .start) (c .before .before .before .before .before .before .args .opening) (c .before .before .before .before .before .before .args .closing) (c .before .before .before .before .before .before .args .definitions .now) (c .before .before .before .before .before .before .args .count) (c .before .before .before .before .before .before .args .t) (c .before .way .given .1) (c .before .before .before .before .before .before .pre .1 .1) .destination
 
 add-part-in-note-2 : tie.Need-add-part-in-note-2
-add-part-in-note-2 c = let w = c .before .before .before .before .before .before .before .before .before .before .pre .1 .whole in omega arith
+add-part-in-note-2 c = search needs
 
 part-in-note-requires-2 : tie.Need-part-in-note-requires-2
-part-in-note-requires-2 c κs = small-as _ _ _ _ _ (c .before .before .before .before .t .given .1) (c .before .before .before .before .before .before .before .before .before .before .pre .1) .title
+part-in-note-requires-2 c κs = small-as (c .before .before .before .before .before .before .before .args .start) (c .before .before .before .before .before .before .before .args .opening) (c .before .before .before .before .before .before .before .args .closing) (c .before .before .before .before .before .before .before .args .definitions .now) (c .before .before .before .before .before .before .before .args .count) (c .before .before .before .before .before .before .before .args .t) (c .before .before .way .given .1) (c .before .before .before .before .before .before .before .pre .1 .1) .title
 
 inline-requires : tie.Need-inline-requires
 inline-requires c κs = search needs
 
-enum-known-t-2 : tie.Need-enum-known-t-2
-enum-known-t-2 c = search needs
+enum-known-way-2 : tie.Need-enum-known-way-2
+enum-known-way-2 c = search needs
 
 definition-at-requires : tie.Need-definition-at-requires
-definition-at-requires c κs = let n = names-as (c .before .before .before .before .before .before .before .args .start) (c .before .before .before .before .before .before .before .args .opening) (c .before .before .before .before .before .before .before .args .closing) _ _ (c .before .t2 .given .1) (c .before .before .before .before .before .before .before .pre .0) in omega arith
+definition-at-requires c κs = let n = names-as (c .before .before .before .before .before .before .args .start) (c .before .before .before .before .before .before .args .opening) (c .before .before .before .before .before .before .args .closing) (c .before .before .before .before .before .before .args .definitions .now) (c .before .before .before .before .before .before .args .count) (c .before .way2 .given .1) (c .before .before .before .before .before .before .pre .0) in omega arith
 
 full-requires : tie.Need-full-requires
-full-requires c κs = small-as _ _ _ _ _ (c .before .before .t2 .given .1) (c .before .before .before .before .before .before .before .before .pre .1) .definition
+full-requires c κs = small-as (c .before .before .before .before .before .before .before .args .start) (c .before .before .before .before .before .before .before .args .opening) (c .before .before .before .before .before .before .before .args .closing) (c .before .before .before .before .before .before .before .args .definitions .now) (c .before .before .before .before .before .before .before .args .count) (c .before .before .before .before .before .before .before .args .t) (c .before .before .way2 .given .1) (c .before .before .before .before .before .before .before .pre .1 .1) .definition
 
-enum-known-t-3 : tie.Need-enum-known-t-3
-enum-known-t-3 c = search needs
+enum-known-way-3 : tie.Need-enum-known-way-3
+enum-known-way-3 c = search needs
 
 definition-at-requires-2 : tie.Need-definition-at-requires-2
-definition-at-requires-2 c κs = let n = names-as (c .before .before .before .before .before .before .before .args .start) (c .before .before .before .before .before .before .before .args .opening) (c .before .before .before .before .before .before .before .args .closing) _ _ (c .before .t3 .given .1) (c .before .before .before .before .before .before .before .pre .0) in omega arith
+definition-at-requires-2 c κs = let n = names-as (c .before .before .before .before .before .before .args .start) (c .before .before .before .before .before .before .args .opening) (c .before .before .before .before .before .before .args .closing) (c .before .before .before .before .before .before .args .definitions .now) (c .before .before .before .before .before .before .args .count) (c .before .way3 .given .1) (c .before .before .before .before .before .before .pre .0) in omega arith
 
 collapsed-requires : tie.Need-collapsed-requires
-collapsed-requires c κs = small-as _ _ _ _ _ (c .before .before .t3 .given .1) (c .before .before .before .before .before .before .before .before .pre .1) .definition
+collapsed-requires c κs = small-as (c .before .before .before .before .before .before .before .args .start) (c .before .before .before .before .before .before .before .args .opening) (c .before .before .before .before .before .before .before .args .closing) (c .before .before .before .before .before .before .before .args .definitions .now) (c .before .before .before .before .before .before .before .args .count) (c .before .before .before .before .before .before .before .args .t) (c .before .before .way3 .given .1) (c .before .before .before .before .before .before .before .pre .1 .1) .definition
 
-enum-known-t-4 : tie.Need-enum-known-t-4
-enum-known-t-4 c = search needs
+enum-known-way-4 : tie.Need-enum-known-way-4
+enum-known-way-4 c = search needs
 
 definition-at-requires-3 : tie.Need-definition-at-requires-3
-definition-at-requires-3 c κs = let n = names-as (c .before .before .before .before .before .before .before .args .start) (c .before .before .before .before .before .before .before .args .opening) (c .before .before .before .before .before .before .before .args .closing) _ _ (c .before .t4 .given .1) (c .before .before .before .before .before .before .before .pre .0) in omega arith
+definition-at-requires-3 c κs = let n = names-as (c .before .before .before .before .before .before .args .start) (c .before .before .before .before .before .before .args .opening) (c .before .before .before .before .before .before .args .closing) (c .before .before .before .before .before .before .args .definitions .now) (c .before .before .before .before .before .before .args .count) (c .before .way4 .given .1) (c .before .before .before .before .before .before .pre .0) in omega arith
 
 shortcut-requires : tie.Need-shortcut-requires
-shortcut-requires c κs = small-as _ _ _ _ _ (c .before .before .t4 .given .1) (c .before .before .before .before .before .before .before .before .pre .1) .definition
+shortcut-requires c κs = small-as (c .before .before .before .before .before .before .before .args .start) (c .before .before .before .before .before .before .before .args .opening) (c .before .before .before .before .before .before .before .args .closing) (c .before .before .before .before .before .before .before .args .definitions .now) (c .before .before .before .before .before .before .before .args .count) (c .before .before .before .before .before .before .before .args .t) (c .before .before .way4 .given .1) (c .before .before .before .before .before .before .before .pre .1 .1) .definition
 
 returns : tie.Need-returns
-returns c = let a = c .before .before .before .before .before .before .before .before .before .before .before .before .args in c .inline .ensures ∙ link-row (a .start) (a .opening) (a .closing) (a .definitions .now) (a .count) _ (c .before .before .before .before .before .before .t .given .1) (c .before .before .before .before .before .before .before .before .before .new .ensures) (c .before .before .before .before .before .before .before .before .before .before .tail-length .ensures (a .closing + 1)) (c .before .before .before .before .before .before .before .before .new2 .ensures) (inline-by (a .start) (a .opening) (a .closing) (a .definitions .now) (a .count) (c .before .before .before .before .before .before .t .given .0 .0) (c .before .before .part-in-note .ensures) (c .before .part-in-note2 .ensures))
+returns c = let a = c .before .before .before .before .before .before .before .before .before .args in c .inline .ensures ∙ link-row (a .start) (a .opening) (a .closing) (a .definitions .now) (a .count) (a .t) _ (c .before .before .before .before .way .given .1) (c .before .before .before .before .before .before .before .before .before .pre .1 .0) (c .before .before .before .before .before .before .before .new .ensures) (c .before .before .before .before .before .before .new2 .ensures) (inline-by (a .start) (a .opening) (a .closing) (a .definitions .now) (a .count) (a .t .length) (c .before .before .before .before .way .given .0 .0) (c .before .before .before .before .way .given .0 .1 .0) (c .before .before .part-in-note .ensures) (c .before .part-in-note2 .ensures))
 
 returns-2 : tie.Need-returns-2
-returns-2 c = let a = c .before .before .before .before .before .before .before .before .before .args in c .full .ensures ∙ link-row (a .start) (a .opening) (a .closing) (a .definitions .now) (a .count) _ (c .before .before .before .t2 .given .1) (c .before .before .before .before .before .before .new .ensures) (c .before .before .before .before .before .before .before .tail-length .ensures (a .closing + 1)) (c .before .before .before .before .before .new2 .ensures) (defined-by (a .start) (a .opening) (a .closing) _ _ (names-as (a .start) (a .opening) (a .closing) _ _ (c .before .before .before .t2 .given .1) (c .before .before .before .before .before .before .before .before .before .pre .0) .0) (c .before .definition-at .ensures))
+returns-2 c = let a = c .before .before .before .before .before .before .before .before .args in c .full .ensures ∙ link-row (a .start) (a .opening) (a .closing) (a .definitions .now) (a .count) (a .t) _ (c .before .before .before .way2 .given .1) (c .before .before .before .before .before .before .before .before .pre .1 .0) (c .before .before .before .before .before .before .new .ensures) (c .before .before .before .before .before .new2 .ensures) (defined-by (a .start) (a .opening) (a .closing) (a .definitions .now) (a .count) (names-as (a .start) (a .opening) (a .closing) (a .definitions .now) (a .count) (c .before .before .before .way2 .given .1) (c .before .before .before .before .before .before .before .before .pre .0) .0) (c .before .definition-at .ensures))
 
 returns-3 : tie.Need-returns-3
-returns-3 c = let a = c .before .before .before .before .before .before .before .before .before .args in c .collapsed .ensures ∙ link-row (a .start) (a .opening) (a .closing) (a .definitions .now) (a .count) _ (c .before .before .before .t3 .given .1) (c .before .before .before .before .before .before .new .ensures) (c .before .before .before .before .before .before .before .tail-length .ensures (a .closing + 1)) (c .before .before .before .before .before .new2 .ensures) (defined-by (a .start) (a .opening) (a .closing) _ _ (names-as (a .start) (a .opening) (a .closing) _ _ (c .before .before .before .t3 .given .1) (c .before .before .before .before .before .before .before .before .before .pre .0) .0) (c .before .definition-at2 .ensures))
+returns-3 c = let a = c .before .before .before .before .before .before .before .before .args in c .collapsed .ensures ∙ link-row (a .start) (a .opening) (a .closing) (a .definitions .now) (a .count) (a .t) _ (c .before .before .before .way3 .given .1) (c .before .before .before .before .before .before .before .before .pre .1 .0) (c .before .before .before .before .before .before .new .ensures) (c .before .before .before .before .before .new2 .ensures) (defined-by (a .start) (a .opening) (a .closing) (a .definitions .now) (a .count) (names-as (a .start) (a .opening) (a .closing) (a .definitions .now) (a .count) (c .before .before .before .way3 .given .1) (c .before .before .before .before .before .before .before .before .pre .0) .0) (c .before .definition-at2 .ensures))
 
 returns-4 : tie.Need-returns-4
-returns-4 c = let a = c .before .before .before .before .before .before .before .before .before .args in c .shortcut .ensures ∙ link-row (a .start) (a .opening) (a .closing) (a .definitions .now) (a .count) _ (c .before .before .before .t4 .given .1) (c .before .before .before .before .before .before .new .ensures) (c .before .before .before .before .before .before .before .tail-length .ensures (a .closing + 1)) (c .before .before .before .before .before .new2 .ensures) (defined-by (a .start) (a .opening) (a .closing) _ _ (names-as (a .start) (a .opening) (a .closing) _ _ (c .before .before .before .t4 .given .1) (c .before .before .before .before .before .before .before .before .before .pre .0) .0) (c .before .definition-at3 .ensures))
+returns-4 c = let a = c .before .before .before .before .before .before .before .before .args in c .shortcut .ensures ∙ link-row (a .start) (a .opening) (a .closing) (a .definitions .now) (a .count) (a .t) _ (c .before .before .before .way4 .given .1) (c .before .before .before .before .before .before .before .before .pre .1 .0) (c .before .before .before .before .before .before .new .ensures) (c .before .before .before .before .before .new2 .ensures) (defined-by (a .start) (a .opening) (a .closing) (a .definitions .now) (a .count) (names-as (a .start) (a .opening) (a .closing) (a .definitions .now) (a .count) (c .before .before .before .way4 .given .1) (c .before .before .before .before .before .before .before .before .pre .0) .0) (c .before .definition-at3 .ensures))
 
 pub link-row-spec : {M : Type 1} → statement M
 link-row-spec =
@@ -100,7 +97,6 @@ link-row-spec =
     (tie.spec
     add-new
     add-new-2
-    tail-length-requires
     add-new-3
     add-new-4
     new-requires
@@ -108,19 +104,19 @@ link-row-spec =
     add-new-6
     add-new-7
     new-requires-2
-    enum-known-t
+    enum-known-way
     add-part-in-note
     part-in-note-requires
     add-part-in-note-2
     part-in-note-requires-2
     inline-requires
-    enum-known-t-2
+    enum-known-way-2
     definition-at-requires
     full-requires
-    enum-known-t-3
+    enum-known-way-3
     definition-at-requires-2
     collapsed-requires
-    enum-known-t-4
+    enum-known-way-4
     definition-at-requires-3
     shortcut-requires
     returns

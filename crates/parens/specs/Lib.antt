@@ -1,0 +1,2 @@
+pub mod Unclosed
+pub mod Samples

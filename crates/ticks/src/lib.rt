@@ -1,0 +1,122 @@
+// Where the last run of each length ends, so that a search for a run that is not there need not be made.
+ghost use mathlib.Core.Path.{_≡_};
+ghost use mathlib.Core.Bool.{false};
+ghost use Prim.Native.Nat.{_+_, _<_, _^_};
+ghost use lib.ListN.{length, getD, drop, set};
+ghost use Rattle.scan.specs.Reading.{past};
+ghost use Rattle.inline.specs.Pieces.{backtick};
+ghost use Rattle.inline.specs.ReadingPieces.{countAfter, closingRun};
+ghost use Rattle.ticks.specs.LastRuns.{LastRuns, Ready};
+use scan::Found;
+
+// The first place from `at` on where no backtick stands; the end is one.
+pub fn backticks_end(s: &[u8], at: usize) -> usize
+    ensures { λ r. ⌜ r ≡ past backtick (now (s .entry)) at ⌝ }
+{
+    let mut i = at;
+    while i < s.len() {
+        if s[i] != 96 {
+            return i;
+        }
+        i += 1;
+    }
+    i
+}
+
+// Backticks just before the next place, where `count` stand just before `b`.
+fn count_after(count: usize, b: u8) -> usize
+    requires { ⌜ count + 1 < 2 ^ 64 ⌝ }
+    ensures { λ r. ⌜ r ≡ countAfter count b ⌝ }
+{
+    if b == 96 {
+        return count + 1;
+    }
+    0
+}
+
+// Where the first maximal run of exactly `n` backticks ends, from `at` on, which is not inside a run.
+pub fn closing_run(s: &[u8], at: usize, n: usize) -> Found
+    ensures { λ r. ⌜ r ≡ closingRun n (drop at (now (s .entry))) at ⌝ }
+{
+    let mut i = at;
+    let mut count: usize = 0;
+    while i < s.len() {
+        let b = s[i];
+        if !(b == 96) & (count == n) {
+            return Found::At(i);
+        }
+        count = count_after(count, b);
+        i += 1;
+    }
+    if count == n {
+        return Found::At(i);
+    }
+    Found::Nothing
+}
+
+// The table with `e` for runs of `n`, where it has a place for them.
+fn put(table: &mut [usize; 256], n: usize, e: usize)
+    requires { ⌜ length (now table) ≡ 256 ⌝ }
+    ensures { λ _. ⌜ now (table .exit) ≡ set (now (table .entry)) n e ⌝ }
+{
+    if n < 256 {
+        table[n] = e;
+    }
+}
+
+// For each n from 1 to 255 the end of the last maximal run of exactly n backticks in `p`, and 0 where there is none.
+pub fn last_runs(p: &[u8], table: &mut [usize; 256])
+    ensures { λ _. ⌜ LastRuns (now (p .entry)) (now (table .exit)) ⌝ }
+    ensures { λ _. ⌜ 0 < getD (now (table .exit)) 0 0 ⌝ }
+{
+    *table = [0; 256];
+    let mut i = 0;
+    let mut count: usize = 0;
+    while i < p.len() {
+        if p[i] == 96 {
+            count += 1;
+            i += 1;
+            continue;
+        }
+        put(table, count, i);
+        count = 0;
+        i += 1;
+    }
+    put(table, count, i);
+    table[0] = 1;
+}
+
+// Where the first maximal run of exactly `n` backticks ends, from `at` on, which is not inside a run.
+pub fn closing_run_quick(p: &[u8], at: usize, n: usize, table: &[usize; 256]) -> Found
+    requires { ⌜ 0 < n ⌝ }
+    requires { ⌜ backtick (getD (now p) at 0) ≡ false ⌝ }
+    requires { ⌜ LastRuns (now p) (now table) ⌝ }
+    ensures { λ r. ⌜ r ≡ closingRun n (drop at (now (p .entry))) at ⌝ }
+{
+    if n < 256 {
+        if table[n] <= at {
+            return Found::Nothing;
+        }
+    }
+    closing_run(p, at, n)
+}
+
+// The same with a table that is made once a search has found nothing. Where every run is closed it is never made.
+pub fn closing_run_lazy(p: &[u8], at: usize, n: usize, table: &mut [usize; 256]) -> Found
+    requires { ⌜ 0 < n ⌝ }
+    requires { ⌜ backtick (getD (now p) at 0) ≡ false ⌝ }
+    requires { ⌜ Ready (now p) (now table) ⌝ }
+    ensures { λ r. ⌜ r ≡ closingRun n (drop at (now (p .entry))) at ⌝ }
+    ensures { λ r. ⌜ Ready (now (p .entry)) (now (table .exit)) ⌝ }
+{
+    if 0 < table[0] {
+        return closing_run_quick(p, at, n, table);
+    }
+    match closing_run(p, at, n) {
+        Found::At(e) => Found::At(e),
+        Found::Nothing => {
+            last_runs(p, table);
+            Found::Nothing
+        }
+    }
+}
