@@ -10,7 +10,7 @@ use lib.Seq.{take-at, drop-at}
 use Rattle.scan.proofs.Test.{by}
 use Rattle.scan.specs.Reading.{leap}
 use Rattle.block.specs.Line.{Lines, none, Blank}
-use Rattle.block.specs.Block.{Placed, joined, AllOther, none, more, Over, end, blank, Blocks, block, BlocksOf}
+use Rattle.block.specs.Block.{Placed, bytesOfLines, AllOther, none, more, BlankOrEnd, end, blank, Blocks, block, BlocksOf}
 use Rattle.block.specs.Reading.{blankLine, blockRest, blockLength, partLength, blockHere, blocks}
 use Rattle.block.proofs.Lines.{Starts, starts, no-lines, blank-iff, other-line, block-first, size, back, lines-of}
 use Rattle.block.proofs.Parts.{fresh-over, fresh-on, leap-blank, leap-block}
@@ -18,7 +18,7 @@ use Rattle.block.proofs.Parts.{fresh-over, fresh-on, leap-blank, leap-b
 -- ---- a run of lines at the front of a text
 pub record Run (s : List ℕ) (run rest : List (List ℕ)) : Type 0 where
   pub after : List ℕ
-  pub whole : s ≡ joined run ++ after
+  pub whole : s ≡ bytesOfLines run ++ after
   pub others : Lines after rest
 
 pub run-of : {s : List ℕ} (run rest : List (List ℕ)) → Lines s (run ++ rest) → Run s run rest
@@ -26,7 +26,7 @@ run-of {s} [] rest p = record { after = s; whole = refl; others = p }
 run-of (l ∷ run) rest p =
     let f = starts p in
     let r = run-of run rest (f .others) in
-    record { after = r .after; whole = f .whole ∙ ap (λ (x : List ℕ). l ++ x) (r .whole) ∙ sym (append-assoc l (joined run) (r .after)); others = r .others }
+    record { after = r .after; whole = f .whole ∙ ap (λ (x : List ℕ). l ++ x) (r .whole) ∙ sym (append-assoc l (bytesOfLines run) (r .after)); others = r .others }
 
 starts-blank : {s l : List ℕ} {ls : List (List ℕ)} → Starts s l ls → Blank l → blankLine s ≡ true
 starts-blank f m = rw (f .whole) (blank-iff (f .is-line) .1 m)
@@ -35,19 +35,19 @@ starts-other : {s l : List ℕ} {ls : List (List ℕ)} → Starts s l ls → (Bl
 starts-other f n = rw (f .whole) (other-line (f .is-line) n)
 
 -- ---- how far a block goes
-over-zero : {s : List ℕ} {rest : List (List ℕ)} → Over rest → Lines s rest → blockRest true s ≡ 0
+over-zero : {s : List ℕ} {rest : List (List ℕ)} → BlankOrEnd rest → Lines s rest → blockRest true s ≡ 0
 unfolding blockRest
 over-zero end p = rw (no-lines p)
 over-zero {s} (blank m) p = fresh-over s (starts-blank (starts p) m)
 
-run-length : {s : List ℕ} {run rest : List (List ℕ)} → AllOther run → Over rest → Lines s (run ++ rest) → blockRest true s ≡ length (joined run)
+run-length : {s : List ℕ} {run rest : List (List ℕ)} → AllOther run → BlankOrEnd rest → Lines s (run ++ rest) → blockRest true s ≡ length (bytesOfLines run)
 run-length none over p = over-zero over p
 run-length {s} (more {l} {ls} n others) over p =
     let f = starts p in
     let h = run-length others over (f .others) in
-    fresh-on s (starts-other f n) ∙ rw (f .whole) (block-first (f .is-line) ∙ rw h (sym (length-append l (joined ls))))
+    fresh-on s (starts-other f n) ∙ rw (f .whole) (block-first (f .is-line) ∙ rw h (sym (length-append l (bytesOfLines ls))))
 
-block-length : {s l : List ℕ} {run rest : List (List ℕ)} → AllOther (l ∷ run) → Over rest → Lines s ((l ∷ run) ++ rest) → blockLength s ≡ length (joined (l ∷ run))
+block-length : {s l : List ℕ} {run rest : List (List ℕ)} → AllOther (l ∷ run) → BlankOrEnd rest → Lines s ((l ∷ run) ++ rest) → blockLength s ≡ length (bytesOfLines (l ∷ run))
 unfolding blockLength
 block-length {s} (more n others) over p = sym (fresh-on s (starts-other (starts p) n)) ∙ run-length (more n others) over p
 
@@ -67,8 +67,8 @@ complete (blank {at} {l} m on) {s} p =
 complete (block {at} {l} {run} {rest} {bs} others over on) {s} p =
     let r = run-of (l ∷ run) rest p in
     let n = block-length others over p in
-    let t : take (blockLength s) s ≡ joined (l ∷ run) = ap (take (blockLength s)) (r .whole) ∙ take-at (joined (l ∷ run)) (r .after) (blockLength s) (sym n) in
-    let d : drop (blockLength s) s ≡ r .after = ap (drop (blockLength s)) (r .whole) ∙ drop-at (joined (l ∷ run)) (r .after) (blockLength s) (sym n) in
+    let t : take (blockLength s) s ≡ bytesOfLines (l ∷ run) = ap (take (blockLength s)) (r .whole) ∙ take-at (bytesOfLines (l ∷ run)) (r .after) (blockLength s) (sym n) in
+    let d : drop (blockLength s) s ≡ r .after = ap (drop (blockLength s)) (r .whole) ∙ drop-at (bytesOfLines (l ∷ run)) (r .after) (blockLength s) (sym n) in
     leap-block s at (starts-other (starts p) (other-first others)) ∙ rw (t, d, n, complete on (r .others))
 
 -- ---- sound: the law has blocks for every note. ls is a run of other lines and a rest, and the rest has its blocks
@@ -77,7 +77,7 @@ record Divided (ls : List (List ℕ)) : Type 0 where
   rest : List (List ℕ)
   whole : ls ≡ run ++ rest
   others : AllOther run
-  over : Over rest
+  over : BlankOrEnd rest
   on : (at : ℕ) → (bs : List Placed) × Blocks at rest bs
 
 blocks-at : {ls : List (List ℕ)} (d : Divided ls) (at : ℕ) → (bs : List Placed) × Blocks at ls bs
@@ -85,7 +85,7 @@ blocks-at d at = rw (d .whole) (from (d .run) (d .others))
   where
     from : (run : List (List ℕ)) → AllOther run → (bs : List Placed) × Blocks at (run ++ d .rest) bs
     from [] none = d .on at
-    from (l ∷ run) others = let (bs, on) = d .on (at + length (joined (l ∷ run))) in (record { at = at; bytes = joined (l ∷ run) } ∷ bs, block others (d .over) on)
+    from (l ∷ run) others = let (bs, on) = d .on (at + length (bytesOfLines (l ∷ run))) in (record { at = at; bytes = bytesOfLines (l ∷ run) } ∷ bs, block others (d .over) on)
 
 divided : (ls after : List (List ℕ)) {s : List ℕ} → Lines s (ls ++ after) → Divided ls
 divided [] after p = record { run = []; rest = []; whole = refl; others = none; over = end; on = λ at. ([], none) }

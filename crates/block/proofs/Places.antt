@@ -9,7 +9,7 @@ use lib.ListN.{length, take, drop, length-append, length-drop}
 use lib.Seq.{take-at, drop-at, drop-drop}
 use Rattle.scan.specs.Reading.{leap}
 use Rattle.block.specs.Line.{Lines}
-use Rattle.block.specs.Block.{Placed, joined, Blocks, none, blank, block}
+use Rattle.block.specs.Block.{Placed, bytesOfLines, Blocks, none, blank, block}
 use Rattle.block.specs.Reading.{blankLine, lineLength, blockLength, partLength, blockHere, blocks}
 use Rattle.block.proofs.Lines.{starts}
 use Rattle.block.proofs.Parts.{line-some, line-fits, block-some, block-fits, other-some, leap-blank, leap-block}
@@ -51,9 +51,9 @@ module _ (s : List ℕ) where
       earlier (le-add-right at (length l)) (in-order on (rw (moved at (length l) l (f .rest) (f .whole) refl) at (f .others)))
   in-order (block {at} {l} {run} {rest} others over on) p =
       let r = run-of (l ∷ run) rest p in
-      let h : 0 < length (joined (l ∷ run)) = omega (arith, starts p .is-line .nonempty, length-append l (joined run)) in
-      next (le-refl at) (within at (joined (l ∷ run)) (r .after) (r .whole) h)
-      (in-order on (rw (moved at (length (joined (l ∷ run))) (joined (l ∷ run)) (r .after) (r .whole) refl) at (r .others)))
+      let h : 0 < length (bytesOfLines (l ∷ run)) = omega (arith, starts p .is-line .nonempty, length-append l (bytesOfLines run)) in
+      next (le-refl at) (within at (bytesOfLines (l ∷ run)) (r .after) (r .whole) h)
+      (in-order on (rw (moved at (length (bytesOfLines (l ∷ run))) (bytesOfLines (l ∷ run)) (r .after) (r .whole) refl) at (r .others)))
 
   pub blocks-in-order : InOrder s 0 (blocks s)
   blocks-in-order = let m = blocks-iff s (blocks s) .0 refl in in-order (m .are-blocks) (m .are-lines)

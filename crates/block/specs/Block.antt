@@ -11,9 +11,9 @@ pub record Placed : Type 0 where
   pub bytes : List ℕ
 
 -- the bytes of some lines
-abbrev pub joined : List (List ℕ) → List ℕ
-joined [] = []
-joined (l ∷ ls) = l ++ joined ls
+abbrev pub bytesOfLines : List (List ℕ) → List ℕ
+bytesOfLines [] = []
+bytesOfLines (l ∷ ls) = l ++ bytesOfLines ls
 
 -- "other lines": none of them is blank
 pub data AllOther : List (List ℕ) → Type 0 where
@@ -21,9 +21,9 @@ pub data AllOther : List (List ℕ) → Type 0 where
   more : {l : List ℕ} {ls : List (List ℕ)} → (Blank l → ⊥) → AllOther ls → AllOther (l ∷ ls)
 
 -- no line follows, or a blank one
-pub data Over : List (List ℕ) → Type 0 where
-  end : Over []
-  blank : {l : List ℕ} {ls : List (List ℕ)} → Blank l → Over (l ∷ ls)
+pub data BlankOrEnd : List (List ℕ) → Type 0 where
+  end : BlankOrEnd []
+  blank : {l : List ℕ} {ls : List (List ℕ)} → Blank l → BlankOrEnd (l ∷ ls)
 
 -- no line stands before, or a blank one: there is none, or the last is blank
 pub data Fresh : List (List ℕ) → Type 0 where
@@ -40,15 +40,15 @@ pub record MaximalRun (s : List ℕ) (b : Placed) : Type 0 where
   pub are-lines : Lines s (before ++ ((first ∷ run) ++ after))
   pub others : AllOther (first ∷ run)
   pub fresh : Fresh before
-  pub over : Over after
-  pub whole : b ≡ record { at = length (joined before); bytes = joined (first ∷ run) }
+  pub over : BlankOrEnd after
+  pub whole : b ≡ record { at = length (bytesOfLines before); bytes = bytesOfLines (first ∷ run) }
 
 -- "A block is a maximal run of other lines": all of them among the lines from place `at` on, in order. The lines are blank ones and runs of others, and after a run no line follows, or a blank one
 pub data Blocks : ℕ → List (List ℕ) → List Placed → Type 0 where
   none : {at : ℕ} → Blocks at [] []
   blank : {at : ℕ} {l : List ℕ} {ls : List (List ℕ)} {bs : List Placed} → Blank l → Blocks (at + length l) ls bs → Blocks at (l ∷ ls) bs
-  block : {at : ℕ} {l : List ℕ} {run rest : List (List ℕ)} {bs : List Placed} → AllOther (l ∷ run) → Over rest
-      → Blocks (at + length (joined (l ∷ run))) rest bs → Blocks at ((l ∷ run) ++ rest) (record { at = at; bytes = joined (l ∷ run) } ∷ bs)
+  block : {at : ℕ} {l : List ℕ} {run rest : List (List ℕ)} {bs : List Placed} → AllOther (l ∷ run) → BlankOrEnd rest
+      → Blocks (at + length (bytesOfLines (l ∷ run))) rest bs → Blocks at ((l ∷ run) ++ rest) (record { at = at; bytes = bytesOfLines (l ∷ run) } ∷ bs)
 
 -- the blocks of the note s
 pub record BlocksOf (s : List ℕ) (bs : List Placed) : Type 0 where

@@ -8,7 +8,7 @@ use mathlib.Core.Logic.{inl, inr}
 use lib.ListN.{length, getD, length-append}
 use lib.Seq.{getD-at, getD-append-add, getD-take}
 use Rattle.block.specs.Line.{EndOfLine, feed, end, Lines}
-use Rattle.block.specs.Block.{Placed, joined}
+use Rattle.block.specs.Block.{Placed, bytesOfLines}
 use Rattle.block.specs.Reading.{blocks}
 use Rattle.block.proofs.Lines.{LineBefore, starts}
 use Rattle.block.proofs.Maximal.{block-iff}
@@ -40,23 +40,23 @@ ended-later l s n h (inl e) =
     inl (ap (λ (i : ℕ). getD (l ++ s) i 0) k ∙ getD-append-add l s (n - 1) 0 ∙ e)
 ended-later l s n h (inr e) = inr (omega (arith, length-append l s))
 
-lines-ended : {s : List ℕ} (ls after : List (List ℕ)) → Lines s (ls ++ after) → 0 < length (joined ls) → LineEnded s (length (joined ls))
+lines-ended : {s : List ℕ} (ls after : List (List ℕ)) → Lines s (ls ++ after) → 0 < length (bytesOfLines ls) → LineEnded s (length (bytesOfLines ls))
 lines-ended [] after p h = let no : ⊥ = omega arith in absurd no
 lines-ended (l ∷ []) after p h = let f = starts p in rw (f .whole, append-nil l) (line-ended (f .is-line))
 lines-ended (l ∷ m ∷ ls) after p h =
     let f = starts p in
     let g = starts (f .others) in
-    let k : 0 < length (joined (m ∷ ls)) = omega (arith, g .is-line .nonempty, length-append m (joined ls)) in
-    rw (f .whole, length-append l (joined (m ∷ ls))) (ended-later l (f .rest) (length (joined (m ∷ ls))) k (lines-ended (m ∷ ls) after (f .others) k))
+    let k : 0 < length (bytesOfLines (m ∷ ls)) = omega (arith, g .is-line .nonempty, length-append m (bytesOfLines ls)) in
+    rw (f .whole, length-append l (bytesOfLines (m ∷ ls))) (ended-later l (f .rest) (length (bytesOfLines (m ∷ ls))) k (lines-ended (m ∷ ls) after (f .others) k))
 
 -- a run of lines that others stand before
-run-ended : {s : List ℕ} (before ls after : List (List ℕ)) → Lines s (before ++ (ls ++ after)) → 0 < length (joined ls)
-    → LineEnded s (length (joined before) + length (joined ls))
+run-ended : {s : List ℕ} (before ls after : List (List ℕ)) → Lines s (before ++ (ls ++ after)) → 0 < length (bytesOfLines ls)
+    → LineEnded s (length (bytesOfLines before) + length (bytesOfLines ls))
 run-ended [] ls after p h = rw zero-add (lines-ended ls after p h)
 run-ended (l ∷ before) ls after p h =
     let f = starts p in
-    let n = length (joined before) + length (joined ls) in
-    let e : length (joined (l ∷ before)) + length (joined ls) ≡ length l + n = omega (arith, length-append l (joined before)) in
+    let n = length (bytesOfLines before) + length (bytesOfLines ls) in
+    let e : length (bytesOfLines (l ∷ before)) + length (bytesOfLines ls) ≡ length l + n = omega (arith, length-append l (bytesOfLines before)) in
     rw (f .whole, e) (ended-later l (f .rest) n (omega arith) (run-ended before ls after (f .others) h))
 
 module _ (s : List ℕ) (b : Placed) (mem : List·Memᴰ b (blocks s)) where
@@ -64,7 +64,7 @@ module _ (s : List ℕ) (b : Placed) (mem : List·Memᴰ b (blocks s)) where
   pub block-ended : LineEnded s (b .at + length (b .bytes))
   block-ended =
       let r = block-iff s b .0 mem in
-      let h : 0 < length (joined (r .first ∷ r .run)) = subst (λ (x : Placed). 0 < length (x .bytes)) (r .whole) (block-within s mem .nonempty) in
+      let h : 0 < length (bytesOfLines (r .first ∷ r .run)) = subst (λ (x : Placed). 0 < length (x .bytes)) (r .whole) (block-within s mem .nonempty) in
       subst (λ (x : Placed). LineEnded s (x .at + length (x .bytes))) (sym (r .whole)) (run-ended (r .before) (r .first ∷ r .run) (r .after) (r .are-lines) h)
 
   in-note : (n : ℕ) → 0 < n → n ≤ b .at + length (b .bytes) → LineEnded (upToEnd s b) n → LineEnded s n

@@ -8,7 +8,7 @@ use lib.Seq.{length-take-le}
 use Rattle.row.specs.declared.Definition.{Definition}
 use Rattle.enquiry.specs.declared.Enquiry.{Enquiry}
 use Rattle.enquiry.specs.declared.Enquiry.the-variants.{Destination, Long, Bad, NotLabel, Undefined}
-use Rattle.enquiry.specs.Enquiry.{numberOf, valueOf, partOf, Address, placeOf}
+use Rattle.enquiry.specs.Enquiry.{numberOf, valueOf, partOf, Address, addressOf}
 use Rattle.enquiry.specs.Law.{Due0, Answers, destination}
 use Rattle.enquiry.specs.Reading.{enquiryOf}
 use Rattle.enquiry.specs.Promise.{Resolved}
@@ -25,10 +25,10 @@ empty note Undefined n = refl
 
 module _ {note label note₁ label₁ answer part : List ℕ} {at place : Address} (r : Resolved note label at note₁ label₁ answer part place) where
   -- the promise in the law's terms
-  pub by-law : {e : Enquiry} → Answers note label e → (answer ≡ numberOf e ∷ valueOf e ∷ []) × (part ≡ partOf note e) × (place ≡ placeOf at e)
+  pub by-law : {e : Enquiry} → Answers note label e → (answer ≡ numberOf e ∷ valueOf e ∷ []) × (part ≡ partOf note e) × (place ≡ addressOf at e)
   by-law a =
       let q = determined note label a in
-      (r .answered ∙ ap (λ (x : Enquiry). numberOf x ∷ valueOf x ∷ []) q, r .part-bytes ∙ ap (partOf note) q, r .part-place ∙ ap (placeOf at) q)
+      (r .answered ∙ ap (λ (x : Enquiry). numberOf x ∷ valueOf x ∷ []) q, r .part-bytes ∙ ap (partOf note) q, r .part-place ∙ ap (addressOf at) q)
 
   -- "handed back as a part of the note itself, escapes undone nowhere"
   pub success-handed : {d : Definition} → Due0 note label d → Handed note at d answer part place

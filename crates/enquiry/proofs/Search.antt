@@ -14,7 +14,8 @@ use Rattle.definition.specs.Reading.{definitions}
 use Rattle.walk.specs.declared.Cursor.{Cursor}
 use Rattle.walk.specs.declared.Next.{Next}
 use Rattle.walk.specs.declared.Next.the-variants as next
-use Rattle.walk.specs.Walk.{definitionsAfter, Within, FirstDefinition, IsNext}
+use Rattle.walk.specs.Reading.{definitionsAfter}
+use Rattle.walk.specs.Promise.{Standing, FirstDefinition, IsNext}
 use Rattle.walk.proofs.Steps.{cursor}
 use Rattle.walk.proofs.Whole.{all-definitions}
 use Rattle.walk.proofs.Places.{definitions-lie, definitions-small}
@@ -26,7 +27,7 @@ use Rattle.enquiry.proofs.Lookup.{none-left, equal-here, other-here, ro
 pub record Searching (note label : List ℕ) (c : Cursor) : Type 0 where
   pub same : answerIn note label (definitionsAfter note c) ≡ answerFor note label
   pub among : (d : Definition) → List·Memᴰ d (definitionsAfter note c) → List·Memᴰ d (definitions note)
-  pub within : Within note c
+  pub within : Standing note c
 
 module _ (note label : List ℕ) where
   pub starts : Searching note label (cursor 0 0)
@@ -38,7 +39,7 @@ module _ (note label : List ℕ) where
   }
 
   module _ {c : Cursor} (s : Searching note label c) where
-    pub stands : Within note c
+    pub stands : Standing note c
     stands = s .within
 
     module _ {x : Next} (n : IsNext note c x) where

@@ -15,7 +15,7 @@ use Rattle.text.proofs.Refusals.{check-good}
 use Rattle.label.specs.Reading.{isLabel}
 use Rattle.enquiry.specs.declared.Enquiry.{Enquiry}
 use Rattle.enquiry.specs.declared.Enquiry.the-variants as enquiry
-use Rattle.enquiry.specs.Enquiry.{numberOf, valueOf, partOf, Address, past, placeOf}
+use Rattle.enquiry.specs.Enquiry.{numberOf, valueOf, partOf, Address, advanced, addressOf}
 use Rattle.enquiry.specs.Reading.{nowhere, goodLabel, answerFor, checkedEnquiry, enquiryOf}
 use Rattle.enquiry.specs.Promise.{Resolved}
 
@@ -60,7 +60,7 @@ module _ (note label : List ℕ) {x : Checked} (check : x ≡ checkOf note) wher
 
 -- ---- the entry: e is the answer, n and v are stored
 module _ (note label : List ℕ) (at : Address) {e : Enquiry} (answer : e ≡ enquiryOf note label) {n v : ℕ} (number : n ≡ numberOf e) (value : v ≡ valueOf e) where
-  pub resolved : {part : List ℕ} {place : Address} → part ≡ partOf note e → place ≡ placeOf at e → Resolved note label at note label (n ∷ v ∷ []) part place
+  pub resolved : {part : List ℕ} {place : Address} → part ≡ partOf note e → place ≡ addressOf at e → Resolved note label at note label (n ∷ v ∷ []) part place
   resolved p q = record {
     answered = rw (← answer, number, value);
     part-bytes = rw (← answer) p;
@@ -69,5 +69,5 @@ module _ (note label : List ℕ) (at : Address) {e : Enquiry} (answer : e ≡ en
     label-kept = refl;
   }
 
-  pub handed : {a z : ℕ} → e ≡ enquiry.Destination a z → Resolved note label at note label (n ∷ v ∷ []) (take (z - a) (drop a note)) (past at a)
+  pub handed : {a z : ℕ} → e ≡ enquiry.Destination a z → Resolved note label at note label (n ∷ v ∷ []) (take (z - a) (drop a note)) (advanced at a)
   handed f = resolved (rw f) (rw f)

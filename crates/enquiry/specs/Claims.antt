@@ -9,14 +9,14 @@ use Rattle.text.specs.Utf8.{FirstBad}
 use Rattle.row.specs.declared.Definition.{Definition}
 use Rattle.row.specs.First.{bytesOf}
 use Rattle.enquiry.specs.declared.Enquiry.{Enquiry}
-use Rattle.enquiry.specs.Enquiry.{numberOf, valueOf, Address, past}
+use Rattle.enquiry.specs.Enquiry.{numberOf, valueOf, Address, advanced}
 use Rattle.enquiry.specs.Law.{Defines, Due1, Due2, Due8, Due7, Due0, Answers}
 
 -- the part is the destination of d where it stands in the note, which lies at the address `at`
 pub record Handed (note : List ℕ) (at : Address) (d : Definition) (answer part : List ℕ) (place : Address) : Type 0 where
   pub numbers : answer ≡ 0 ∷ d .destination .start ∷ []
   pub bytes : part ≡ bytesOf note (d .destination)
-  pub own-place : place ≡ past at (d .destination .start)
+  pub own-place : place ≡ advanced at (d .destination .start)
   pub size : d .destination .start + length part ≡ d .destination .end
   pub inside : d .destination .end ≤ length note
 

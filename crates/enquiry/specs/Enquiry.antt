@@ -34,13 +34,13 @@ abbrev pub Address : Type 0
 Address = ℕ × ℕ
 
 -- n bytes further
-abbrev pub past : Address → ℕ → Address
-past a n = (a .0, n + a .1)
+abbrev pub advanced : Address → ℕ → Address
+advanced a n = (a .0, n + a .1)
 
 -- where the part lies, if the note lies at a: the destination's own place; on a refusal the note's start
-abbrev pub placeOf : Address → Enquiry → Address
-placeOf a (Destination start end) = past a start
-placeOf a (Long size) = a
-placeOf a (Bad place) = a
-placeOf a NotLabel = a
-placeOf a Undefined = a
+abbrev pub addressOf : Address → Enquiry → Address
+addressOf a (Destination start end) = advanced a start
+addressOf a (Long size) = a
+addressOf a (Bad place) = a
+addressOf a NotLabel = a
+addressOf a Undefined = a

@@ -14,7 +14,8 @@ use Rattle.row.specs.Reading.{definitionsFrom}
 use Rattle.definition.specs.Reading.{definitions}
 use Rattle.walk.specs.declared.Paragraph.{Paragraph}
 use Rattle.walk.specs.declared.Paragraph.the-variants as paragraph
-use Rattle.walk.specs.Walk.{paragraphsFrom, FirstParagraph, IsParagraph}
+use Rattle.walk.specs.Reading.{paragraphsFrom}
+use Rattle.walk.specs.Promise.{FirstParagraph, IsParagraph}
 use Rattle.walk.proofs.Whole.{all-paragraphs}
 use Rattle.span.specs.declared.Span.{Span}
 use Rattle.span.specs.Row.{numbers, filled}

@@ -11,7 +11,8 @@ use Rattle.definition.specs.Reading.{definitions}
 use Rattle.walk.specs.declared.Cursor.{Cursor}
 use Rattle.walk.specs.declared.Next.{Next}
 use Rattle.walk.specs.declared.Next.the-variants as next
-use Rattle.walk.specs.Walk.{definitionsAfter, Within, FirstDefinition, IsNext}
+use Rattle.walk.specs.Reading.{definitionsAfter}
+use Rattle.walk.specs.Promise.{Standing, FirstDefinition, IsNext}
 use Rattle.walk.proofs.Steps.{cursor}
 use Rattle.walk.proofs.Whole.{all-definitions}
 use Rattle.walk.proofs.Places.{definitions-small}
@@ -22,7 +23,7 @@ pub record Filling (note t₀ t : List ℕ) (k : ℕ) (c : Cursor) : Type 0 wher
   pub whole : definitions note ≡ passed ++ definitionsAfter note c
   pub counted : k ≡ length passed
   pub table : t ≡ filled passed t₀
-  pub within : Within note c
+  pub within : Standing note c
   pub bound : k ≤ c .at
 
 module _ (note t₀ : List ℕ) where
@@ -37,7 +38,7 @@ module _ (note t₀ : List ℕ) where
   }
 
   module _ {t : List ℕ} {k : ℕ} {c : Cursor} (f : Filling note t₀ t k c) where
-    pub stands-there : Within note c
+    pub stands-there : Standing note c
     stands-there = f .within
 
     pub same-size : length t ≡ length t₀

@@ -22,7 +22,8 @@ use Rattle.definition.proofs.Takings.{turn-over, turn-taken, taking-takes}
 use Rattle.walk.specs.declared.Block.{Block}
 use Rattle.walk.specs.declared.Block.the-variants as block
 use Rattle.walk.specs.declared.Cursor.{Cursor}
-use Rattle.walk.specs.Walk.{between, blocksFrom, paragraphsFrom, definitionsAfter, FirstBlock, IsBlock, FirstDefinition, FirstParagraph}
+use Rattle.walk.specs.Reading.{placedBetween, blocksFrom, paragraphsFrom, definitionsAfter}
+use Rattle.walk.specs.Promise.{FirstBlock, IsBlock, FirstDefinition, FirstParagraph}
 
 -- ---- blocks: what is left from place i on are all of them from place `at` on
 module _ (s : List ℕ) (at i : ℕ) (inv : blocksFrom s i ≡ blocksFrom s at) where
@@ -71,16 +72,16 @@ module _ (s : List ℕ) (i : ℕ) {b : Block} (is-block : IsBlock s i b) {a z : 
 
 -- ---- a block from place a up to place e
 module _ (s : List ℕ) (a e : ℕ) (ordered : a ≤ e) (inside : e ≤ length s) where
-  ends-there : upToEnd s (between s a e) ≡ take e s
+  ends-there : upToEnd s (placedBetween s a e) ≡ take e s
   ends-there =
       let size : a + length (take (e - a) (drop a s)) ≡ e = omega (arith, length-take-le (e - a) (drop a s) (omega (arith, length-drop a s))) in
       ap (λ (n : ℕ). take n s) size
 
-  pub its-taking : definitionsOf s (between s a e) ≡ definitionsFrom (take e s) a
+  pub its-taking : definitionsOf s (placedBetween s a e) ≡ definitionsFrom (take e s) a
   unfolding definitionsOf
   its-taking = rw ends-there
 
-  pub its-paragraph : paragraphOf s (between s a e) ≡ paragraphFrom (take e s) (definitionsFrom (take e s) a .after)
+  pub its-paragraph : paragraphOf s (placedBetween s a e) ≡ paragraphFrom (take e s) (definitionsFrom (take e s) a .after)
   unfolding paragraphOf
   its-paragraph = rw (ends-there, its-taking)
 

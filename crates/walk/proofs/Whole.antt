@@ -4,7 +4,7 @@ use mathlib.Core.Path.{_≡_, refl}
 use mathlib.Core.List.{List}
 use Rattle.block.specs.Reading.{blocks}
 use Rattle.definition.specs.Reading.{takingFrom, definitionsFrom, definitions, paragraphs}
-use Rattle.walk.specs.Walk.{blocksFrom, definitionsAfter, paragraphsFrom}
+use Rattle.walk.specs.Reading.{blocksFrom, definitionsAfter, paragraphsFrom}
 use Rattle.walk.proofs.Steps.{cursor}
 
 module _ (s : List ℕ) where

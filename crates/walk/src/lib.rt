@@ -1,7 +1,7 @@
 // A note's definitions one after the other, and its paragraphs one after the other.
 ghost use mathlib.Core.Path.{_≡_};
 ghost use Rattle.definition.specs.Reading.{definitionsFrom};
-ghost use Rattle.walk.specs.Walk.{IsBlock, Within, IsNext, IsParagraph};
+ghost use Rattle.walk.specs.Promise.{IsBlock, Standing, IsNext, IsParagraph};
 use definition::Entry;
 use row::Definition;
 
@@ -45,7 +45,7 @@ fn next_block(note: &[u8], at: usize) -> Block
 
 // The first definition from `c` on.
 pub fn next_definition(note: &[u8], c: Cursor) -> Next
-    requires { ⌜ Within (now note) c ⌝ }
+    requires { ⌜ Standing (now note) c ⌝ }
     ensures { λ r. ⌜ IsNext (now (note .entry)) c r ⌝ }
 {
     let mut at = c.at;

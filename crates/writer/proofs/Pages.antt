@@ -6,7 +6,8 @@ use mathlib.Core.List.{List, [], _++_, flatMap}
 use lib.ListN.{length}
 use Rattle.walk.specs.declared.Paragraph.{Paragraph}
 use Rattle.walk.specs.declared.Paragraph.the-variants as paragraph
-use Rattle.walk.specs.Walk.{paragraphsFrom, between, FirstParagraph, IsParagraph}
+use Rattle.walk.specs.Reading.{paragraphsFrom, placedBetween}
+use Rattle.walk.specs.Promise.{FirstParagraph, IsParagraph}
 use Rattle.walk.proofs.Whole.{all-paragraphs}
 use Rattle.note.specs.Reading.{spanRows}
 use Rattle.buffer.specs.Stored.{Writes}
@@ -49,7 +50,7 @@ module _ {s page₀ page : List ℕ} {at : ℕ} {p : Pass} (g : Pages s page₀ 
     pub less : length s - n < length s - at
     less = omega (arith, here .onward, here .inside)
 
-    one-more : pagesFrom s at ≡ paragraphPage s (spanRows s) (between s a e) ++ pagesFrom s n
+    one-more : pagesFrom s at ≡ paragraphPage s (spanRows s) (placedBetween s a e) ++ pagesFrom s n
     unfolding flatMap
     one-more = rw (here .first) refl
 
@@ -60,7 +61,7 @@ module _ {s page₀ page : List ℕ} {at : ℕ} {p : Pass} (g : Pages s page₀ 
           ordered = here .ordered;
           within = omega (arith, here .ends, here .inside);
           cursors = record { code = c .code; link = c .link };
-          room = room (paragraphPage s (spanRows s) (between s a e)) (pagesFrom s n) (g .written) one-more (omega (arith, page-most s (d .short)));
+          room = room (paragraphPage s (spanRows s) (placedBetween s a e)) (pagesFrom s n) (g .written) one-more (omega (arith, page-most s (d .short)));
         }
 
     pub further : {page′ : List ℕ} {r : Pass} → Ends s e (record { at = a; code = p .code; link = p .link; size = p .size }) page r page′ → Pages s page₀ page′ n r

@@ -6,7 +6,7 @@ use mathlib.Core.Path.{_≡_, refl, sym, ap, _∙_}
 use mathlib.Core.List.{List, [], _++_}
 use lib.ListN.{length, take, drop, length-append, length-drop, drop-of-length-le}
 use lib.Seq.{length-take-le, take-all}
-use Rattle.walk.specs.Walk.{between}
+use Rattle.walk.specs.Reading.{placedBetween}
 use Rattle.walk.proofs.Steps.{cut}
 use Rattle.note.specs.Reading.{spanRows}
 use Rattle.html.specs.Tags.{paragraphOpen, paragraphClose}
@@ -29,13 +29,13 @@ module _ (s : List ℕ) (e : ℕ) (w : e ≤ length s) where
   unfolding contentFrom
   left-none i h = let l : length (take e s) ≤ i = omega (arith, length-take-le e s w) in rw (drop-of-length-le (take e s) l) refl
 
-  left-whole : (a : ℕ) → a ≤ e → contentFrom s (spanRows s) 0 (between s a e .bytes) a ≡ left s e a
+  left-whole : (a : ℕ) → a ≤ e → contentFrom s (spanRows s) 0 (placedBetween s a e .bytes) a ≡ left s e a
   left-whole a h =
       let z : take (e - a) (drop a s) ≡ drop a (take e s)
       = sym (cut s a e h w e (omega arith)) ∙ take-all (e - a) (drop a (take e s)) (omega (arith, length-drop a (take e s), length-take-le e s w)) in
       rw (z, zero-add a) refl
 
-  paragraph-is : (a : ℕ) → a ≤ e → paragraphPage s (spanRows s) (between s a e) ≡ paragraphOpen ++ left s e a ++ paragraphClose
+  paragraph-is : (a : ℕ) → a ≤ e → paragraphPage s (spanRows s) (placedBetween s a e) ≡ paragraphOpen ++ left s e a ++ paragraphClose
   unfolding paragraphPage
   paragraph-is a h = ap (λ (l : List ℕ). paragraphOpen ++ l ++ paragraphClose) (left-whole a h)
 

@@ -8,7 +8,7 @@ use lib.ListN.{length, take}
 use lib.Dec.{eqb}
 use Rattle.scan.specs.Member.{In}
 use Rattle.row.specs.First.{bytesOf}
-use Rattle.walk.specs.Walk.{between}
+use Rattle.walk.specs.Reading.{placedBetween}
 use Rattle.inline.specs.Rows.{rowEnd}
 use Rattle.note.specs.Reading.{spanRows}
 use Rattle.html.specs.Tags.{linkClose}
@@ -81,9 +81,9 @@ pub record Starts (s : List ℕ) (e : ℕ) (p : Pass) : Type 0 where
   pub ordered : p .at ≤ e
   pub within : e ≤ length s
   pub cursors : Cursors s p (p .at)
-  pub room : p .size + length (paragraphPage s (spanRows s) (between s (p .at) e)) ≤ pageMost
+  pub room : p .size + length (paragraphPage s (spanRows s) (placedBetween s (p .at) e)) ≤ pageMost
 
 -- the paragraph is written, and the cursors stand for its end
 pub record Ends (s : List ℕ) (e : ℕ) (p : Pass) (page : List ℕ) (r : Pass) (page′ : List ℕ) : Type 0 where
-  pub written : Writes page (p .size) (paragraphPage s (spanRows s) (between s (p .at) e)) page′ (r .size)
+  pub written : Writes page (p .size) (paragraphPage s (spanRows s) (placedBetween s (p .at) e)) page′ (r .size)
   pub cursors : Cursors s r e

@@ -3,7 +3,7 @@ use borrow.Author.Needs.{needs}
 use mathlib.Core.Path.{_≡_}
 use Prim.Native.Nat.{_-_, _≤_}
 use lib.ListN.{length}
-use Rattle.walk.specs.Walk.{blocksFrom}
+use Rattle.walk.specs.Reading.{blocksFrom}
 use Rattle.walk.proofs.Steps.{no-block, past-blank, block-here, line-less}
 use Rattle.walk.proofs.next_block.Statement.{statement}
 use Rattle.walk.proofs.next_block.Tie as tie

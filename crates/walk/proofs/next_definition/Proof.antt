@@ -4,7 +4,7 @@ use mathlib.Core.Path.{_≡_, sym}
 use Prim.Native.Nat.{_-_, _≤_}
 use lib.ListN.{length}
 use lib.Seq.{length-take-le}
-use Rattle.walk.specs.Walk.{definitionsAfter}
+use Rattle.walk.specs.Reading.{definitionsAfter}
 use Rattle.walk.proofs.Steps.{cursor, definition-here, no-definition, next-block, block-inside, block-starts, block-ordered, block-less}
 use Rattle.walk.proofs.next_definition.Statement.{statement}
 use Rattle.walk.proofs.next_definition.Tie as tie

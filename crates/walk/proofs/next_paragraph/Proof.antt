@@ -4,7 +4,7 @@ use mathlib.Core.Path.{_≡_, sym}
 use Prim.Native.Nat.{_-_, _≤_}
 use lib.ListN.{length}
 use lib.Seq.{length-take-le}
-use Rattle.walk.specs.Walk.{paragraphsFrom}
+use Rattle.walk.specs.Reading.{paragraphsFrom}
 use Rattle.walk.proofs.Steps.{no-paragraph, all-taken, paragraph-here, block-inside, block-ends, block-less}
 use Rattle.walk.proofs.next_paragraph.Statement.{statement}
 use Rattle.walk.proofs.next_paragraph.Tie as tie

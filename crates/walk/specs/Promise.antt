@@ -1,13 +1,9 @@
--- The blocks, definitions and paragraphs of a note from a place on, and what each step over them answers.
-use Prim.Native.Nat.{ℕ, _-_, _≤_, _<_}
+-- What each step over a note's blocks, definitions and paragraphs answers.
+use Prim.Native.Nat.{ℕ, _≤_, _<_}
 use mathlib.Core.Path.{_≡_}
-use mathlib.Core.List.{List, [], _∷_, _++_}
-use lib.ListN.{length, take, drop}
-use Rattle.scan.specs.Reading.{leap}
-use Rattle.block.specs.Block.{Placed}
-use Rattle.block.specs.Reading.{partLength, blockHere}
+use mathlib.Core.List.{List, [], _∷_}
+use lib.ListN.{length}
 use Rattle.row.specs.declared.Definition.{Definition}
-use Rattle.definition.specs.Reading.{definitionsFrom, definitionsIn, paragraphsIn}
 use Rattle.walk.specs.declared.Block.{Block}
 use Rattle.walk.specs.declared.Block.the-variants as block
 use Rattle.walk.specs.declared.Cursor.{Cursor}
@@ -15,27 +11,11 @@ use Rattle.walk.specs.declared.Next.{Next}
 use Rattle.walk.specs.declared.Next.the-variants as next
 use Rattle.walk.specs.declared.Paragraph.{Paragraph}
 use Rattle.walk.specs.declared.Paragraph.the-variants as paragraph
+use Rattle.walk.specs.Reading.{placedBetween, blocksFrom, paragraphsFrom, definitionsAfter}
 
--- the bytes of s from place a up to place e
-abbrev pub between : List ℕ → ℕ → ℕ → Placed
-between s a e = record { at = a; bytes = take (e - a) (drop a s) }
-
--- ---- what is left from a place on
--- the blocks of the note s from place i on, where a line starts
-unfoldable pub blocksFrom : List ℕ → ℕ → List Placed
-blocksFrom s i = leap partLength blockHere 0 (drop i s) i
-
-unfoldable pub paragraphsFrom : List ℕ → ℕ → List Placed
-paragraphsFrom s i = paragraphsIn s (blocksFrom s i)
-
--- the definitions from place c .at on of the block that ends at c .end, and those of the blocks after it
-unfoldable pub definitionsAfter : List ℕ → Cursor → List Definition
-definitionsAfter s c = definitionsFrom (take (c .end) s) (c .at) .definitions ++ definitionsIn s (blocksFrom s (c .end))
-
--- ---- one step
 -- the first block from place i on runs from a to e
 pub record FirstBlock (s : List ℕ) (i a e : ℕ) : Type 0 where
-  pub first : blocksFrom s i ≡ between s a e ∷ blocksFrom s e
+  pub first : blocksFrom s i ≡ placedBetween s a e ∷ blocksFrom s e
   pub low : i ≤ a
   pub nonempty : a < e
   pub inside : e ≤ length s
@@ -45,14 +25,14 @@ IsBlock s i (block.At a e) = FirstBlock s i a e
 IsBlock s i block.End = blocksFrom s i ≡ []
 
 -- reading can stand at c: its places are in order and within s
-pub record Within (s : List ℕ) (c : Cursor) : Type 0 where
+pub record Standing (s : List ℕ) (c : Cursor) : Type 0 where
   pub ordered : c .at ≤ c .end
   pub inside : c .end ≤ length s
 
 -- d is the first definition that c has before it, and c′ stands after d
 pub record FirstDefinition (s : List ℕ) (c : Cursor) (d : Definition) (c′ : Cursor) : Type 0 where
   pub first : definitionsAfter s c ≡ d ∷ definitionsAfter s c′
-  pub within : Within s c′
+  pub within : Standing s c′
   pub onward : c .at < c′ .at
 
 abbrev pub IsNext : List ℕ → Cursor → Next → Type 0
@@ -61,7 +41,7 @@ IsNext s c next.End = definitionsAfter s c ≡ []
 
 -- the first paragraph from place i on runs from a to e, and its block to n
 pub record FirstParagraph (s : List ℕ) (i a e n : ℕ) : Type 0 where
-  pub first : paragraphsFrom s i ≡ between s a e ∷ paragraphsFrom s n
+  pub first : paragraphsFrom s i ≡ placedBetween s a e ∷ paragraphsFrom s n
   pub low : i ≤ a
   pub ordered : a ≤ e
   pub ends : e ≤ n
