@@ -29,8 +29,8 @@ use Rattle.definition.proofs.Notes.{note-some, note-one}
 use Rattle.walk.proofs.Places.{Lies, definitions-lie}
 use Rattle.enquiry.specs.declared.Enquiry.{Enquiry}
 use Rattle.enquiry.specs.declared.Enquiry.the-variants as enquiry
-use Rattle.enquiry.specs.Law.{NoLabel, GoodLabel, DefinitionsOf, NoDefinition, Defines, Answers}
-use Rattle.enquiry.specs.Law as law
+use Rattle.enquiry.specs.Answers.{NoLabel, GoodLabel, DefinitionsOf, NoDefinition, Defines, Answers}
+use Rattle.enquiry.specs.Answers as law
 use Rattle.enquiry.specs.Reading.{nowhere, goodLabel, answerBy, past-end, answerAt, answerIn, answerFor, checkedEnquiry, enquiryOf}
 
 -- ---- the label

@@ -12,7 +12,7 @@ use Rattle.row.specs.declared.Definition.{Definition}
 use Rattle.enquiry.specs.declared.Enquiry.{Enquiry}
 use Rattle.enquiry.specs.declared.Enquiry.the-variants.{Destination, Long, Bad, NotLabel, Undefined}
 use Rattle.enquiry.specs.Enquiry.{numberOf, valueOf}
-use Rattle.enquiry.specs.Law.{Defines, Due1, Due2, Due8, Due7, Due0, Answers, long, bad, not-label, undefined, destination}
+use Rattle.enquiry.specs.Answers.{Defines, Due1, Due2, Due8, Due7, Due0, Answers, long, bad, not-label, undefined, destination}
 use Rattle.enquiry.specs.Reading.{enquiryOf}
 use Rattle.enquiry.proofs.Answers.{answers, determined}
 

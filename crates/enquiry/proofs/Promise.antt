@@ -9,7 +9,7 @@ use Rattle.row.specs.declared.Definition.{Definition}
 use Rattle.enquiry.specs.declared.Enquiry.{Enquiry}
 use Rattle.enquiry.specs.declared.Enquiry.the-variants.{Destination, Long, Bad, NotLabel, Undefined}
 use Rattle.enquiry.specs.Enquiry.{numberOf, valueOf, partOf, Address, addressOf}
-use Rattle.enquiry.specs.Law.{Due0, Answers, destination}
+use Rattle.enquiry.specs.Answers.{Due0, Answers, destination}
 use Rattle.enquiry.specs.Reading.{enquiryOf}
 use Rattle.enquiry.specs.Promise.{Resolved}
 use Rattle.enquiry.specs.Claims.{Handed, Demand1, Same}

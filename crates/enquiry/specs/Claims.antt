@@ -10,7 +10,7 @@ use Rattle.row.specs.declared.Definition.{Definition}
 use Rattle.row.specs.First.{bytesOf}
 use Rattle.enquiry.specs.declared.Enquiry.{Enquiry}
 use Rattle.enquiry.specs.Enquiry.{numberOf, valueOf, Address, advanced}
-use Rattle.enquiry.specs.Law.{Defines, Due1, Due2, Due8, Due7, Due0, Answers}
+use Rattle.enquiry.specs.Answers.{Defines, Due1, Due2, Due8, Due7, Due0, Answers}
 
 -- the part is the destination of d where it stands in the note, which lies at the address `at`
 pub record Handed (note : List ℕ) (at : Address) (d : Definition) (answer part : List ℕ) (place : Address) : Type 0 where

@@ -1,5 +1,5 @@
 pub mod Enquiry
-pub mod Law
+pub mod Answers
 pub mod Reading
 pub mod Promise
 pub mod Claims
