@@ -48,7 +48,16 @@ module _ {s t u s′ t′ u′ : List ℕ} where
   module _ {n : ℕ} {answer : List ℕ} (p : ReadPromise s t u n s′ t′ u′ answer) where
     -- the reader's own promise: with it demand 1 holds of the answer, and demands 2 and 3 of the tables
     pub as-read : Promise s t u (reading s t u) s′ t′ u′
-    as-read = record { answer = refl; definitions = p .definitions; spans = p .spans; note = p .note }
+    as-read = record {
+      answer = refl;
+      number = refl;
+      value = refl;
+      definitions-counted = refl;
+      spans-counted = refl;
+      definitions = p .definitions;
+      spans = p .spans;
+      note = p .note;
+    }
 
     -- the numbers in the law's terms
     pub by-law : {x : Reading} → Answers s (definitionTable.wholeRows t) (spanTable.wholeRows u) x

@@ -8,9 +8,9 @@ use Rattle.row.specs.Row as definitionTable
 use Rattle.span.specs.Row as spanTable
 use Rattle.rendering.specs.declared.Rendering.{Rendering}
 use Rattle.rendering.specs.declared.Rendering.the-variants.{Rendered, Long, Bad, FewDefinitions, Deep, FewSpans, ShortPage}
-use Rattle.rendering.specs.Law.{Answers}
-use Rattle.rendering.specs.Renderer.{numberOf, valueOf, definitionCount, spanCount, pageLength, Promise}
-use Rattle.rendering.proofs.Answers.{answers-iff}
+use Rattle.rendering.specs.Answers.{numberOf, valueOf, definitionCount, spanCount, pageLength, Answers}
+use Rattle.rendering.specs.Promise.{Promise}
+use Rattle.rendering.proofs.Answers.{answers-iff, promised}
 use Rattle.notice_c.specs.Render.{rendering, numbersOf, RenderPromise}
 
 -- every number is a 32-bit number
@@ -51,7 +51,7 @@ module _ {s t u p s′ t′ u′ p′ : List ℕ} where
   module _ {n : ℕ} {answer : List ℕ} (kept : RenderPromise s t u p n s′ t′ u′ p′ answer) where
     -- the page writer's own promise: with it demand 1 holds of the answer, and the page writer's claims of all that was lent
     pub as-rendered : Promise s t u p (rendering s t u p) s′ t′ u′ p′
-    as-rendered = record { answer = refl; definitions = kept .definitions; spans = kept .spans; page = kept .page; note = kept .note }
+    as-rendered = promised refl (kept .definitions) (kept .spans) (kept .page) (kept .note)
 
     -- the numbers in the law's terms
     pub by-law : {x : Rendering} → Answers s (definitionTable.wholeRows t) (spanTable.wholeRows u) (length p) x → (n ≡ numberOf x) × (answer ≡ numbersOf x)

@@ -7,7 +7,8 @@ use Rattle.row.specs.Row as definitionTable
 use Rattle.span.specs.Row as spanTable
 use Rattle.notice.specs.Promise.{definitionTableOf, spanTableOf}
 use Rattle.rendering.specs.declared.Rendering.{Rendering}
-use Rattle.rendering.specs.Renderer.{numberOf, valueOf, definitionCount, spanCount, pageLength, renderingOf, pageBufferOf}
+use Rattle.rendering.specs.Answers.{numberOf, valueOf, definitionCount, spanCount, pageLength}
+use Rattle.rendering.specs.Reading.{renderingOf, pageBufferOf}
 
 -- the page writer's answer to the note s with the definition table t, the span table u and the page buffer p
 abbrev pub rendering : List ℕ → List ℕ → List ℕ → List ℕ → Rendering

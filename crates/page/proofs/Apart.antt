@@ -3,7 +3,6 @@ use Prim.Native.Nat.{ℕ, zero, suc, _+_, _≤_, _<_}
 use native.Mathlib.Decide.{decLt}
 use native.Mathlib.Omega.{arith}
 use mathlib.Core.Path.{_≡_, sym, ap, _∙_, subst}
-use mathlib.Core.Logic.{_≢_}
 use mathlib.Core.Option.{some, Option·some-injective, Option·none-ne-some}
 use mathlib.Core.List.{List}
 use mathlib.Core.Bool.{true≢false}
@@ -28,7 +27,8 @@ use Rattle.note.proofs.Rows.{in-rows-iff}
 use Rattle.note.proofs.Order.{later-ends-later}
 use Rattle.page.specs.Reading.{isCode, rowStart}
 use Rattle.page.proofs.Pieces.{grows, opening-role, link-is-no-code, one-link}
-use Rattle.page.proofs.Here.{read, starts-after, in-order, marking-of, row-of}
+use Rattle.page.proofs.Extent.{read, row-reaches}
+use Rattle.page.proofs.Here.{starts-after, in-order, marking-of, row-of}
 
 module _ (s : List ℕ) (ds : List Definition) (q : Placed) (m : Marking Tail) (c : MarkingOf s ds q m) where
   codes-apart : (x y : Piece) → CodeOf m x → CodeOf m y → x .end < y .end → x .end ≤ y .start
@@ -100,21 +100,12 @@ module _ (s : List ℕ) where
   abbrev n : Marked s
   n = marked s
 
-  row-reaches : (row : List ℕ) (r : RowOf (n .definitions) (n .paragraphs) (n .markings) row)
-      → (r .paragraph .at ≤ rowStart row) × (rowStart row ≤ rowEnd row) × (rowEnd row ≤ r .paragraph .at + length (r .paragraph .bytes))
-  row-reaches row r =
-      let c = marking-of s n (r .index) (r .paragraph) (r .marking) (r .paragraph-at) (r .marking-at) in
-      let w = span-within (r .paragraph .bytes) (labelsOf s (n .definitions)) (r .marking) c (r .span) (r .of-marking) in
-      let st : r .paragraph .at + wholeOf (r .span) .start ≡ rowStart row = ap rowStart (read s n row r) in
-      let en : r .paragraph .at + wholeOf (r .span) .end ≡ rowEnd row = ap rowEnd (read s n row r) in
-      (omega arith, omega (arith, w .text-from, w .text-ordered, w .text-to), omega (arith, w .to))
-
   pub rows-apart : (i j : ℕ) (x y : List ℕ) → i < j → getElem? (spanRows s) i ≡ some x → getElem? (spanRows s) j ≡ some y → isCode x ≡ isCode y → rowEnd x ≤ rowStart y
   rows-apart i j x y l e d k =
       let a = in-rows-iff s n x .0 (i, e) in
       let b = in-rows-iff s n y .0 (j, d) in
       let ends = later-ends-later s i j x y l e d in
-      cases a b ends (row-reaches x a) (row-reaches y b) (decLt (a .index) (b .index)) (decLt (b .index) (a .index))
+      cases a b ends (row-reaches s n x a) (row-reaches s n y b) (decLt (a .index) (b .index)) (decLt (b .index) (a .index))
     where
       cases : (a : RowOf (n .definitions) (n .paragraphs) (n .markings) x) (b : RowOf (n .definitions) (n .paragraphs) (n .markings) y) → rowEnd x < rowEnd y
           → (a .paragraph .at ≤ rowStart x) × (rowStart x ≤ rowEnd x) × (rowEnd x ≤ a .paragraph .at + length (a .paragraph .bytes))

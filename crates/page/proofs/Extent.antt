@@ -1,9 +1,10 @@
--- No row is empty, and a link's text ends within its span.
-use Prim.Native.Nat.{ℕ, _<_}
+-- How far rows reach: none is empty, a link's text ends within its span, and a span lies within its paragraph.
+use Prim.Native.Nat.{ℕ, _+_, _≤_, _<_}
 use native.Mathlib.Omega.{arith}
 use mathlib.Core.Path.{_≡_, ap, _∙_, subst}
 use mathlib.Core.List.{List}
 use mathlib.Core.Bool.{false, true≢false}
+use lib.ListN.{length}
 use Rattle.marking.specs.Marking.{Marking}
 use Rattle.scan.specs.Member.{In}
 use Rattle.marking.specs.Spans.{Span, codeSpan, linkSpan, SpanOf}
@@ -11,16 +12,17 @@ use Rattle.block.specs.Block.{Placed}
 use Rattle.row.specs.declared.Definition.{Definition}
 use Rattle.row.specs.First.{labelsOf}
 use Rattle.inline.specs.Tails.{Tail}
-use Rattle.inline.specs.Rows.{rowEnd}
+use Rattle.inline.specs.Rows.{wholeOf, rowEnd}
 use Rattle.inline.specs.ReadingRows.{spanRow}
 use Rattle.inline.proofs.SpanBounds.{span-within}
-use Rattle.note.specs.Note.{MarkingOf}
+use Rattle.inline.proofs.SpanRows.{row-read}
+use Rattle.note.specs.Note.{MarkingOf, Marked, RowOf}
 use Rattle.note.specs.Reading.{spanRows}
 use Rattle.note.proofs.Markings.{marked}
+use Rattle.note.proofs.Members.{pair-at}
 use Rattle.note.proofs.Rows.{in-rows-iff}
 use Rattle.note.proofs.Spans.{link-read, code-some}
 use Rattle.page.specs.Reading.{isCode, rowStart, textEnd}
-use Rattle.page.proofs.Here.{marking-of, read}
 
 module _ (s : List ℕ) (ds : List Definition) (q : Placed) (m : Marking Tail) (c : MarkingOf s ds q m) where
   span-some : (x : Span Tail) → SpanOf m x → rowStart (spanRow (q .at) (q .bytes) ds x) < rowEnd (spanRow (q .at) (q .bytes) ds x)
@@ -38,16 +40,30 @@ module _ (s : List ℕ) (ds : List Definition) (q : Placed) (m : Marking Tail) (
       let w = span-within (q .bytes) (labelsOf s ds) m c (linkSpan a b t) o in
       (omega (arith, r .some-bracket, w .text-ordered), omega (arith, r .one-bracket))
 
+module _ (s : List ℕ) (n : Marked s) where
+  -- the row of a span as it is read
+  pub read : (row : List ℕ) (r : RowOf (n .definitions) (n .paragraphs) (n .markings) row) → spanRow (r .paragraph .at) (r .paragraph .bytes) (n .definitions) (r .span) ≡ row
+  read row r = row-read (r .paragraph .at) (r .paragraph .bytes) (n .definitions) (r .row-is)
+
+  pub row-reaches : (row : List ℕ) (r : RowOf (n .definitions) (n .paragraphs) (n .markings) row)
+      → (r .paragraph .at ≤ rowStart row) × (rowStart row ≤ rowEnd row) × (rowEnd row ≤ r .paragraph .at + length (r .paragraph .bytes))
+  row-reaches row r =
+      let c = pair-at (n .each) (r .index) (r .paragraph) (r .marking) (r .paragraph-at) (r .marking-at) in
+      let w = span-within (r .paragraph .bytes) (labelsOf s (n .definitions)) (r .marking) c (r .span) (r .of-marking) in
+      let st : r .paragraph .at + wholeOf (r .span) .start ≡ rowStart row = ap rowStart (read row r) in
+      let en : r .paragraph .at + wholeOf (r .span) .end ≡ rowEnd row = ap rowEnd (read row r) in
+      (omega arith, omega (arith, w .text-from, w .text-ordered, w .text-to), omega (arith, w .to))
+
 module _ (s : List ℕ) where
   pub row-some : (row : List ℕ) → In row (spanRows s) → rowStart row < rowEnd row
   row-some row i =
       let r = in-rows-iff s (marked s) row .0 i in
-      let c = marking-of s (marked s) (r .index) (r .paragraph) (r .marking) (r .paragraph-at) (r .marking-at) in
+      let c = pair-at (marked s .each) (r .index) (r .paragraph) (r .marking) (r .paragraph-at) (r .marking-at) in
       subst (λ (x : List ℕ). rowStart x < rowEnd x) (read s (marked s) row r) (span-some s (marked s .definitions) (r .paragraph) (r .marking) c (r .span) (r .of-marking))
 
   pub link-text : (row : List ℕ) → In row (spanRows s) → isCode row ≡ false → (rowStart row < textEnd row) × (textEnd row < rowEnd row)
   link-text row i e =
       let r = in-rows-iff s (marked s) row .0 i in
-      let c = marking-of s (marked s) (r .index) (r .paragraph) (r .marking) (r .paragraph-at) (r .marking-at) in
+      let c = pair-at (marked s .each) (r .index) (r .paragraph) (r .marking) (r .paragraph-at) (r .marking-at) in
       subst (λ (x : List ℕ). (rowStart x < textEnd x) × (textEnd x < rowEnd x)) (read s (marked s) row r)
       (link-ends s (marked s .definitions) (r .paragraph) (r .marking) c (r .span) (r .of-marking) (ap isCode (read s (marked s) row r) ∙ e))

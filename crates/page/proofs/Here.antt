@@ -1,29 +1,25 @@
 -- The rows that stand in a paragraph are those of its marking: paragraphs do not overlap.
-use Prim.Native.Nat.{ℕ, zero, suc, _+_, _≤_, _<_}
+use Prim.Native.Nat.{ℕ, zero, suc, _+_, _-_, _≤_, _<_}
 use native.Mathlib.Omega.{arith}
 use mathlib.Core.Path.{_≡_, refl, sym, ap, _∙_, subst}
-use mathlib.Core.Logic.{_≢_}
 use mathlib.Core.Option.{some, Option·some-injective, Option·none-ne-some}
 use mathlib.Core.List.{List}
-use mathlib.Core.Bool.{false, true≢false}
 use lib.ListN.{length, getElem?}
-use Rattle.marking.specs.Marking.{role, Marking}
-use Rattle.marking.specs.Spans.{Span, codeSpan, linkSpan, SpanOf}
-use Rattle.marking.proofs.Roles.{nothing≢trailing, opening≢trailing, closing≢trailing}
+use Rattle.marking.specs.Marking.{Marking}
+use Rattle.marking.specs.Spans.{SpanOf}
 use Rattle.block.specs.Block.{Placed}
-use Rattle.row.specs.declared.Definition.{Definition}
 use Rattle.row.specs.First.{labelsOf}
 use Rattle.definition.proofs.Notes.{note-iff}
 use Rattle.definition.proofs.NotePlaces.{Ordered, done, next, paragraphs-in-order}
 use Rattle.inline.specs.Tails.{Tail}
 use Rattle.inline.specs.ReadingRows.{spanRow}
-use Rattle.inline.proofs.SpanRows.{row-read, row-iff}
+use Rattle.inline.proofs.SpanRows.{row-iff}
 use Rattle.note.specs.Note.{MarkingOf, Marked, RowOf}
 use Rattle.note.specs.Reading.{spanRows}
 use Rattle.note.proofs.Members.{pair-at}
 use Rattle.note.proofs.Rows.{in-rows-iff}
-use Rattle.page.specs.Reading.{isCode, rowStart, textEnd}
-use Rattle.page.proofs.Pieces.{RowHere, RowsHere, stands-inside, opening-role, closing-role}
+use Rattle.page.proofs.Extent.{read, row-some, link-text, row-reaches}
+use Rattle.page.proofs.Pieces.{RowHere, RowsHere}
 
 pub starts-after : {s : List ℕ} {from : ℕ} {ps : List Placed} → Ordered s from ps → (k : ℕ) (q : Placed) → getElem? ps k ≡ some q → from ≤ q .at
 starts-after done k q e = absurd (Option·none-ne-some q e)
@@ -45,27 +41,12 @@ same-paragraph (next {p = p} w i o) (suc j) zero a b e d x y h l z =
     absurd (omega arith)
 same-paragraph (next w i o) (suc j) (suc k) a b e d x y h l z = ap suc (same-paragraph o j k a b e d x y h l z)
 
--- a span starts within its paragraph, and so does a link's closing bracket
-module _ (s : List ℕ) (ds : List Definition) (q : Placed) (m : Marking Tail) (c : MarkingOf s ds q m) where
-  span-starts : (x : Span Tail) → SpanOf m x → (i : ℕ) × (i < length (q .bytes)) × (rowStart (spanRow (q .at) (q .bytes) ds x) ≡ q .at + i)
-  span-starts (codeSpan y) o = (y .start, stands-inside s ds q m c (o .index) y (o .at) (λ z. nothing≢trailing (ap role (sym (o .is-code)) ∙ z)), refl)
-  span-starts (linkSpan a b t) o = (a .start, stands-inside s ds q m c (o .from) a (o .open-at) (λ z. opening≢trailing (sym (opening-role s ds q m c a b t o) ∙ z)), refl)
-
-  link-closes : (x : Span Tail) → SpanOf m x → isCode (spanRow (q .at) (q .bytes) ds x) ≡ false
-      → (i : ℕ) × (i < length (q .bytes)) × (textEnd (spanRow (q .at) (q .bytes) ds x) ≡ q .at + i)
-  link-closes (codeSpan y) o e = absurd (true≢false e)
-  link-closes (linkSpan a b t) o e = (b .start, stands-inside s ds q m c (o .to) b (o .close-at) (λ z. closing≢trailing (sym (closing-role s ds q m c a b t o) ∙ z)), refl)
-
 module _ (s : List ℕ) (n : Marked s) where
   pub in-order : Ordered s 0 (n .paragraphs)
   in-order = let (d, p) = note-iff s (n .definitions) (n .paragraphs) .1 (n .note) in subst (Ordered s 0) p (paragraphs-in-order s)
 
   pub marking-of : (k : ℕ) (q : Placed) (m : Marking Tail) → getElem? (n .paragraphs) k ≡ some q → getElem? (n .markings) k ≡ some m → MarkingOf s (n .definitions) q m
   marking-of k q m e d = pair-at (n .each) k q m e d
-
-  -- the row of a span as it is read
-  pub read : (row : List ℕ) (r : RowOf (n .definitions) (n .paragraphs) (n .markings) row) → spanRow (r .paragraph .at) (r .paragraph .bytes) (n .definitions) (r .span) ≡ row
-  read row r = row-read (r .paragraph .at) (r .paragraph .bytes) (n .definitions) (r .row-is)
 
   module _ (k : ℕ) (q : Placed) (m : Marking Tail) (e : getElem? (n .paragraphs) k ≡ some q) (d : getElem? (n .markings) k ≡ some m) where
     -- a row whose paragraph has the index k
@@ -76,7 +57,7 @@ module _ (s : List ℕ) (n : Marked s) where
         record {
           span = r .span;
           of-marking = subst (λ (y : Marking Tail). SpanOf y (r .span)) b (r .of-marking);
-          row-is = ap (λ (y : Placed). spanRow (y .at) (y .bytes) (n .definitions) (r .span)) (sym a) ∙ read row r;
+          row-is = ap (λ (y : Placed). spanRow (y .at) (y .bytes) (n .definitions) (r .span)) (sym a) ∙ read s n row r;
         }
 
     pub rows-here : RowsHere (n .definitions) q m (spanRows s)
@@ -94,16 +75,10 @@ module _ (s : List ℕ) (n : Marked s) where
                 of-marking = o;
                 row-is = row-iff (q .bytes) (labelsOf s (n .definitions)) m (marking-of k q m e d) (q .at) (n .definitions) x o _ .1 refl;
               });
-          starting = λ row h i l z.
+          covering = λ row h i l lo hi.
               let r = in-rows-iff s n row .0 h in
-              let (j, y, t) = span-starts s (n .definitions) (r .paragraph) (r .marking) (marking-of (r .index) (r .paragraph) (r .marking) (r .paragraph-at) (r .marking-at)) (r .span) (r .of-marking) in
-              let place : r .paragraph .at + j ≡ q .at + i = sym t ∙ ap rowStart (read row r) ∙ z in
-              row-of row r (same-paragraph in-order (r .index) k (r .paragraph) q (r .paragraph-at) e j i y l place);
-          closing = λ row h code i l z.
-              let r = in-rows-iff s n row .0 h in
-              let (j, y, t) =
-              link-closes s (n .definitions) (r .paragraph) (r .marking) (marking-of (r .index) (r .paragraph) (r .marking) (r .paragraph-at) (r .marking-at)) (r .span) (r .of-marking)
-              (ap isCode (read row r) ∙ code) in
-              let place : r .paragraph .at + j ≡ q .at + i = sym t ∙ ap textEnd (read row r) ∙ z in
-              row-of row r (same-paragraph in-order (r .index) k (r .paragraph) q (r .paragraph-at) e j i y l place);
+              let (a, b, c) = row-reaches s n row r in
+              row-of row r (same-paragraph in-order (r .index) k (r .paragraph) q (r .paragraph-at) e (q .at + i - r .paragraph .at) i (omega arith) l (omega arith));
+          not-empty = row-some s;
+          text-ends = link-text s;
         }

@@ -1,21 +1,24 @@
--- the reading over a paragraph's bytes, and the rows that stand in a paragraph
+-- the reading over a paragraph's bytes
 pub mod Found
 pub mod Turns
+-- how far rows reach, and those that stand in a paragraph
+pub mod Extent
 pub mod Pieces
+pub mod Here
+pub mod Apart
+pub mod Parts
+-- the page that is read from the rows is the page of the markings
 pub mod Texts
 pub mod Steps
 pub mod Content
-pub mod Here
--- the page by the rows is the page by the law
 pub mod Page
+-- it is the one that the rows call for
+pub mod Ranges
+pub mod Tiling
 pub mod ByRows
 -- what a page holds, and how long it is
 pub mod Safety
 pub mod Lengths
 pub mod Claims
--- rows of one sort do not overlap; the parts of a row
-pub mod Extent
-pub mod Apart
-pub mod Parts
 -- the samples by the law
-pub mod Bench
+pub mod Samples

@@ -21,6 +21,7 @@ use Rattle.row.specs.declared.Definition.{Definition}
 use Rattle.row.specs.First.{labelsOf}
 use Rattle.inline.proofs.PieceBounds.{sized}
 use Rattle.inline.specs.Tails.{Tail, inline, full, collapsed, shortcut}
+use Rattle.inline.specs.Rows.{rowEnd}
 use Rattle.inline.specs.ReadingRows.{spanRow}
 use Rattle.inline.proofs.Starting.{starts-iff}
 use Rattle.inline.proofs.Demand3.{every-bracket-in-one-pair-at-most}
@@ -34,11 +35,12 @@ pub record RowHere (ds : List Definition) (q : Placed) (m : Marking Tail) (row :
   pub of-marking : SpanOf m span
   pub row-is : spanRow (q .at) (q .bytes) ds span ≡ row
 
--- what the rows are to one paragraph: those of its spans are there, and no other starts in it or has its text's end in it
+-- what the rows are to one paragraph: those of its spans are there, and no other reaches into it; none is empty, and a link's text ends within it
 pub record RowsHere (ds : List Definition) (q : Placed) (m : Marking Tail) (rows : List (List ℕ)) : Type 0 where
   pub each : (x : Span Tail) → SpanOf m x → In (spanRow (q .at) (q .bytes) ds x) rows
-  pub starting : (row : List ℕ) → In row rows → (i : ℕ) → i < length (q .bytes) → rowStart row ≡ q .at + i → RowHere ds q m row
-  pub closing : (row : List ℕ) → In row rows → isCode row ≡ false → (i : ℕ) → i < length (q .bytes) → textEnd row ≡ q .at + i → RowHere ds q m row
+  pub covering : (row : List ℕ) → In row rows → (i : ℕ) → i < length (q .bytes) → rowStart row ≤ q .at + i → q .at + i < rowEnd row → RowHere ds q m row
+  pub not-empty : (row : List ℕ) → In row rows → rowStart row < rowEnd row
+  pub text-ends : (row : List ℕ) → In row rows → isCode row ≡ false → (rowStart row < textEnd row) × (textEnd row < rowEnd row)
 
 pub link-is-no-code : (at : ℕ) (p : List ℕ) (ds : List Definition) (o c : Piece) (t : Tail) → isCode (spanRow at p ds (linkSpan o c t)) ≡ false
 link-is-no-code at p ds o c (inline n d t) = refl
@@ -71,6 +73,11 @@ module _ (s : List ℕ) (ds : List Definition) (q : Placed) (m : Marking Tail) (
 
   pub grows : (k : ℕ) (x : Piece) → At ps k x → role (x .kind) ≢ trailing → x .start < x .end
   grows k x a n = let f = starts-iff (q .bytes) x .0 (c .kinds k x a n) in subst (λ (y : Piece). x .start < y .end) (f .from) (sized (q .bytes) (x .start) (f .inside) .grows)
+
+  pub ends-inside : (k : ℕ) (x : Piece) → At ps k x → role (x .kind) ≢ trailing → x .end ≤ length (q .bytes)
+  ends-inside k x a n =
+      let f = starts-iff (q .bytes) x .0 (c .kinds k x a n) in
+      subst (λ (y : Piece). y .end ≤ length (q .bytes)) (f .from) (sized (q .bytes) (x .start) (f .inside) .within)
 
   pub stands-inside : (k : ℕ) (x : Piece) → At ps k x → role (x .kind) ≢ trailing → x .start < length (q .bytes)
   stands-inside k x a n = starts-iff (q .bytes) x .0 (c .kinds k x a n) .inside
@@ -111,14 +118,14 @@ module _ (s : List ℕ) (ds : List Definition) (q : Placed) (m : Marking Tail) (
     pub code-of : CodeOf m piece
     pub row-is : spanRow (q .at) (q .bytes) ds (codeSpan piece) ≡ r
 
-  code-row : (r : List ℕ) → RowHere ds q m r → isCode r ≡ true → CodeRow r
+  pub code-row : (r : List ℕ) → RowHere ds q m r → isCode r ≡ true → CodeRow r
   code-row r h e = cases (h .span) (h .of-marking) (h .row-is)
     where
       cases : (x : Span Tail) → SpanOf m x → spanRow (q .at) (q .bytes) ds x ≡ r → CodeRow r
       cases (codeSpan y) o k = record { piece = y; code-of = o; row-is = k }
       cases (linkSpan a b t) o k = absurd (true≢false (sym e ∙ ap isCode (sym k) ∙ link-is-no-code (q .at) (q .bytes) ds a b t))
 
-  link-row : (r : List ℕ) → RowHere ds q m r → isCode r ≡ false → LinkRow r
+  pub link-row : (r : List ℕ) → RowHere ds q m r → isCode r ≡ false → LinkRow r
   link-row r h e = cases (h .span) (h .of-marking) (h .row-is)
     where
       cases : (x : Span Tail) → SpanOf m x → spanRow (q .at) (q .bytes) ds x ≡ r → LinkRow r
@@ -132,7 +139,7 @@ module _ (s : List ℕ) (ds : List Definition) (q : Placed) (m : Marking Tail) (
       code-at e =
           let (j, t) = found-in (codeStarts (q .at + i)) rows r e in
           let st : rowStart r ≡ q .at + i = eqb-true (rowStart r) (q .at + i) (and-right (isCode r) _ t) in
-          let y = code-row r (h .starting r j i in-p st) (and-left (isCode r) _ t) in
+          let y = code-row r (h .covering r j i in-p (omega arith) (omega (arith, h .not-empty r j))) (and-left (isCode r) _ t) in
           let place : q .at + y .piece .start ≡ q .at + i = ap rowStart (y .row-is) ∙ st in
           let quiet : role (y .piece .kind) ≢ trailing = λ z. nothing≢trailing (ap role (sym (y .code-of .is-code)) ∙ z) in
           let ix : k ≡ y .code-of .index = same-index k x (y .code-of .index) (y .piece) a (y .code-of .at) quiet (omega arith) (omega arith) in
@@ -150,7 +157,7 @@ module _ (s : List ℕ) (ds : List Definition) (q : Placed) (m : Marking Tail) (
       open-at e =
           let (j, t) = found-in (linkStarts (q .at + i)) rows r e in
           let st : rowStart r ≡ q .at + i = eqb-true (rowStart r) (q .at + i) (and-right (not (isCode r)) _ t) in
-          let y = link-row r (h .starting r j i in-p st) (not-true _ (and-left (not (isCode r)) _ t)) in
+          let y = link-row r (h .covering r j i in-p (omega arith) (omega (arith, h .not-empty r j))) (not-true _ (and-left (not (isCode r)) _ t)) in
           let place : q .at + y .opener .start ≡ q .at + i = ap rowStart (y .row-is) ∙ st in
           let quiet : role (y .opener .kind) ≢ trailing = λ z. opening≢trailing (sym (opening-role (y .opener) (y .closer) (y .with-tail) (y .link)) ∙ z) in
           let ix : k ≡ y .link .from = same-index k x (y .link .from) (y .opener) a (y .link .open-at) quiet (omega arith) (omega arith) in
@@ -174,7 +181,8 @@ module _ (s : List ℕ) (ds : List Definition) (q : Placed) (m : Marking Tail) (
           let (j, t) = found-in (linkCloses (q .at + i)) rows r e in
           let st : textEnd r ≡ q .at + i = eqb-true (textEnd r) (q .at + i) (and-right (not (isCode r)) _ t) in
           let no-code : isCode r ≡ false = not-true _ (and-left (not (isCode r)) _ t) in
-          let y = link-row r (h .closing r j no-code i in-p st) no-code in
+          let (b, e) = h .text-ends r j no-code in
+          let y = link-row r (h .covering r j i in-p (omega arith) (omega arith)) no-code in
           let place : q .at + y .closer .start ≡ q .at + i = ap textEnd (y .row-is) ∙ st in
           let quiet : role (y .closer .kind) ≢ trailing = λ z. closing≢trailing (sym (closing-role (y .opener) (y .closer) (y .with-tail) (y .link)) ∙ z) in
           let ix : k ≡ y .link .to = same-index k x (y .link .to) (y .closer) a (y .link .close-at) quiet (omega arith) (omega arith) in

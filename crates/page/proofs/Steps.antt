@@ -2,7 +2,7 @@
 use Prim.Native.Nat.{ℕ, _+_, _-_, _≤_, _<_}
 use native.Mathlib.Nat.{add-zero}
 use native.Mathlib.Omega.{arith}
-use mathlib.Core.Path.{_≡_, refl, sym, ap, _∙_, subst}
+use mathlib.Core.Path.{_≡_, refl, sym, ap, _∙_}
 use mathlib.Core.Logic.{_≢_}
 use mathlib.Core.Option.{none}
 use mathlib.Core.List.{List, [], _∷_, _++_}
@@ -24,9 +24,7 @@ use Rattle.inline.specs.Pieces.{Starts, an-escape, code-span, backticks, openin
 use Rattle.inline.specs.Tails.{Tail, lengthOf}
 use Rattle.inline.specs.Rows.{rowEnd}
 use Rattle.inline.specs.ReadingRows.{textOf, spanRow}
-use Rattle.inline.proofs.PieceBounds.{sized}
 use Rattle.inline.proofs.Ticks.{ticks-in}
-use Rattle.inline.proofs.Starting.{starts-iff}
 use Rattle.inline.proofs.SpanBounds.{SpanWithin, span-within}
 use Rattle.note.specs.Note.{MarkingOf}
 use Rattle.note.proofs.Placing.{part-bytes}
@@ -34,11 +32,11 @@ use Rattle.escaping.specs.Escaping.{escaped}
 use Rattle.page.specs.Reading.{rowStart, textEnd, text, firstRow, codeStarts, linkStarts, linkCloses, from, Bare}
 use Rattle.page.proofs.Found.{none-if, by-found}
 use Rattle.page.proofs.Turns.{turn-escape, turn-byte, turn-bytes, turn-code, turn-open, turn-close}
-use Rattle.page.proofs.Pieces.{RowsHere, grows, opening-role, closing-role, code-at, open-at, close-at, code-found, close-found}
+use Rattle.page.proofs.Pieces.{RowsHere, grows, stands-inside, ends-inside, opening-role, closing-role, code-at, open-at, close-at, code-found, close-found}
 use Rattle.page.proofs.Texts.{pieceText}
 
 -- a byte that is no backslash starts no escape
-no-escape : (p : List ℕ) (a b : ℕ) → getD p a 0 ≡ b → eqb b 92 ≡ false → escapes (drop a p) ≡ false
+pub no-escape : (p : List ℕ) (a b : ℕ) → getD p a 0 ≡ b → eqb b 92 ≡ false → escapes (drop a p) ≡ false
 no-escape p a b e h = rw (getD-drop a p 0 0, add-zero a, e, h)
 
 escaped-open : escaped 91 ≡ 91 ∷ []
@@ -81,7 +79,7 @@ module _ (s : List ℕ) (ds : List Definition) (q : Placed) (m : Marking Tail) (
   quiet : (x : Piece) → role (x .kind) ≢ closing → (o : Piece) (t : Tail) → LinkOf m o x t → ⊥
   quiet x n o t l = n (closing-role s ds q m c o x t l)
 
-  code-bytes : (x : Piece) → CodeOf m x → (r : List ℕ) → spanRow (q .at) (q .bytes) ds (codeSpan x) ≡ r → bytesOf s (text r) ≡ bytesOf (q .bytes) (textOf (q .bytes) (codeSpan x))
+  pub code-bytes : (x : Piece) → CodeOf m x → (r : List ℕ) → spanRow (q .at) (q .bytes) ds (codeSpan x) ≡ r → bytesOf s (text r) ≡ bytesOf (q .bytes) (textOf (q .bytes) (codeSpan x))
   code-bytes x o r e =
       let t = textOf (q .bytes) (codeSpan x) in
       let b : SpanWithin (q .bytes) (codeSpan x) = span-within (q .bytes) (labelsOf s ds) m c (codeSpan x) o in
@@ -152,7 +150,7 @@ module _ (s : List ℕ) (ds : List Definition) (q : Placed) (m : Marking Tail) (
       on (quiet x nothing≢closing)
       (turn-escape s rows (q .bytes) (q .at) i l (bare k x a i (omega arith) (omega arith) l (λ z. let y : _≡_ {A = ℕ} 0 1 = cc in absurd (omega arith)) refl) e)
 
-  tick-no-escape : (i n j : ℕ) → Backticks (q .bytes) i n → i ≤ j → j < i + n → escapes (drop j (q .bytes)) ≡ false
+  pub tick-no-escape : (i n j : ℕ) → Backticks (q .bytes) i n → i ≤ j → j < i + n → escapes (drop j (q .bytes)) ≡ false
   tick-no-escape i n j r lo hi =
       let z : i + (j - i) ≡ j = omega arith in
       no-escape (q .bytes) j 96 (eqb-true (getD (q .bytes) j 0) 96 (rw z at (ticks-in (q .bytes) i n r (j - i) (omega arith)))) refl
@@ -169,8 +167,4 @@ module _ (s : List ℕ) (ds : List Definition) (q : Placed) (m : Marking Tail) (
   step-by k {x} a g l e (other {a = i} b d n) = step-text k x a refl (omega arith) e (one-place i d)
 
   pub step : (k : ℕ) (x : Piece) → At (m .pieces) k x → role (x .kind) ≢ trailing → Stepped x
-  step k x a n =
-      let st = c .kinds k x a n in
-      let f = starts-iff (q .bytes) x .0 st in
-      let top : x .end ≤ length (q .bytes) = subst (λ (y : Piece). y .end ≤ length (q .bytes)) (f .from) (sized (q .bytes) (x .start) (f .inside) .within) in
-      step-by k a (grows s ds q m c k x a n) (f .inside) top st
+  step k x a n = step-by k a (grows s ds q m c k x a n) (stands-inside s ds q m c k x a n) (ends-inside s ds q m c k x a n) (c .kinds k x a n)

@@ -11,20 +11,20 @@ use Rattle.block.specs.Block.{Placed}
 use Rattle.row.specs.declared.Definition.{Definition}
 use Rattle.row.specs.First.{bytesOf}
 use Rattle.definition.specs.Note.{NoteIs}
-use Rattle.note.specs.Note.{SpanRowsAre}
+use Rattle.note.specs.Note.{EachRowOnce}
 use Rattle.html.specs.Tags.{paragraphOpen, paragraphClose, linkClose}
 use Rattle.code.specs.Code.{codeOpen, codeClose}
 use Rattle.escaping.specs.Clean.{Clean}
 use Rattle.buffer.specs.Stored.{pageMost}
 use Rattle.page.specs.Page.{PageIs}
-use Rattle.page.specs.Reading.{text, destination, title, pageBy, pageOf}
+use Rattle.page.specs.ByRows.{spanOf, ByRows}
 
 -- ---- the rows call for it
 -- the notes s and t have the same bytes where the row says that a code span's text, a destination and a title stand
 pub record SameParts (s t : List ℕ) (row : List ℕ) : Type 0 where
-  pub text-same : bytesOf s (text row) ≡ bytesOf t (text row)
-  pub destination-same : bytesOf s (destination row) ≡ bytesOf t (destination row)
-  pub title-same : bytesOf s (title row) ≡ bytesOf t (title row)
+  pub text-same : bytesOf s (spanOf row .text) ≡ bytesOf t (spanOf row .text)
+  pub destination-same : bytesOf s (spanOf row .destination) ≡ bytesOf t (spanOf row .destination)
+  pub title-same : bytesOf s (spanOf row .title) ≡ bytesOf t (spanOf row .title)
 
 -- ---- what stands in it
 -- the tags that are written; what is put into them holds no `<`, `>` or `"`, and each `&` in it starts an entity
@@ -44,12 +44,14 @@ pub data Tagged : List ℕ → Type 0 where
   clean : {w v : List ℕ} → Clean w → Tagged v → Tagged (w ++ v)
 
 pub record PageClaims (s : List ℕ) : Type 0 where
-  -- the page that is read is the one by the law
-  pub by-law : (w : List ℕ) → (pageOf s ≡ w) ↔ PageIs s w
-  -- it is the one that the paragraphs and the span rows call for, whatever definitions and paragraphs and rows the laws give
-  pub by-rows : (ds : List Definition) (ps : List Placed) (rows : List (List ℕ)) → NoteIs s ds ps → SpanRowsAre s rows → (w : List ℕ) → (pageBy s ps rows ≡ w) ↔ PageIs s w
-  -- and for nothing else of the note but the bytes that the rows name
-  pub by-parts : (t : List ℕ) (ps : List Placed) (rows : List (List ℕ)) → ((row : List ℕ) → In row rows → SameParts s t row) → pageBy s ps rows ≡ pageBy t ps rows
+  -- it has one
+  pub page : List ℕ
+  pub page-is : PageIs s page
+  pub no-other : (w : List ℕ) → PageIs s w → w ≡ page
+  -- the same that the span rows call for in the paragraphs, whatever definitions, paragraphs and rows the laws give
+  pub by-rows : (ds : List Definition) (ps : List Placed) (rows : List (List ℕ)) → NoteIs s ds ps → EachRowOnce s rows → (w : List ℕ) → ByRows s rows ps w ↔ PageIs s w
+  -- and of the note the rows call for nothing but the bytes that they name: any rows, in any paragraphs
+  pub by-parts : (t : List ℕ) (ps : List Placed) (rows : List (List ℕ)) → ((row : List ℕ) → In row rows → SameParts s t row) → (w : List ℕ) → ByRows s rows ps w → ByRows t rows ps w
   -- whatever the note, no byte of it opens or closes a tag or an attribute
   pub tagged : (w : List ℕ) → PageIs s w → Tagged w
   -- no sum of lengths wraps

@@ -1,4 +1,5 @@
 pub mod Page
+pub mod ByRows
 pub mod Reading
 pub mod Claims
 pub mod Samples

@@ -11,6 +11,7 @@ use Rattle.row.specs.declared.Range.{Range}
 use Rattle.row.specs.Row.{range}
 use Rattle.row.specs.First.{bytesOf}
 use Rattle.definition.specs.Reading.{paragraphs}
+use Rattle.span.specs.Row.{codeSpanKind}
 use Rattle.inline.specs.Rows.{rowEnd}
 use Rattle.note.specs.Reading.{spanRows}
 use Rattle.escaping.specs.Escaping.{escaped}
@@ -21,7 +22,7 @@ use Rattle.html.specs.Reading.{linkOpen}
 
 -- ---- the numbers of a row
 abbrev pub isCode : List ℕ → Bool
-isCode r = eqb (getD r 0 0) 1
+isCode r = eqb (getD r 0 0) codeSpanKind
 
 abbrev pub rowStart : List ℕ → ℕ
 rowStart r = getD r 1 0

@@ -10,7 +10,8 @@ use Rattle.notice.specs.declared.Reading.{Reading}
 use Rattle.notice.specs.declared.Reading.the-variants.{Read, Long, Bad, FewDefinitions, Deep, FewSpans}
 use Rattle.notice.specs.Promise as reader
 use Rattle.rendering.specs.declared.Rendering.{Rendering}
-use Rattle.rendering.specs.Renderer.{numberOf, valueOf, definitionCount, spanCount, afterReading}
+use Rattle.rendering.specs.Answers.{numberOf, valueOf, definitionCount, spanCount}
+use Rattle.rendering.specs.Reading.{afterReading}
 
 abbrev ZeroOrSix : Rendering → Type 0
 ZeroOrSix r = (numberOf r ≡ 0) ⊎ (numberOf r ≡ 6)

@@ -11,11 +11,12 @@ use Rattle.page.specs.Reading.{pageOf}
 use Rattle.page.proofs.Page.{page-iff}
 use Rattle.notice.specs.declared.Reading.{Reading}
 use Rattle.notice.specs.Answers as reader
-use Rattle.notice.specs.Promise.{readingOf}
+use Rattle.notice.specs.Promise.{readingOf, definitionTableOf, spanTableOf}
 use Rattle.notice.proofs.Answers as reader-answers
 use Rattle.rendering.specs.declared.Rendering.{Rendering}
-use Rattle.rendering.specs.Law.{PageMeasured, Answers, long, bad, few-definitions, deep, few-spans, short-page, rendered}
-use Rattle.rendering.specs.Renderer.{afterReading, renderingOf}
+use Rattle.rendering.specs.Answers.{numberOf, valueOf, definitionCount, spanCount, pageLength, PageMeasured, Answers, long, bad, few-definitions, deep, few-spans, short-page, rendered}
+use Rattle.rendering.specs.Reading.{afterReading, renderingOf, pageBufferOf}
+use Rattle.rendering.specs.Promise.{answerTo, Promise}
 
 -- ---- the page that is read is the one by the law
 module _ (s : List ℕ) where
@@ -69,3 +70,19 @@ module _ (s : List ℕ) (d n room : ℕ) where
 
   pub answers-iff : (r : Rendering) → (renderingOf s d n room ≡ r) ↔ Law r
   answers-iff r = ((λ e. subst Law e the-answer), reads)
+
+-- the numbers of the answer are the answer's
+pub promised : {s t u p : List ℕ} {r : Rendering} {s′ t′ u′ p′ : List ℕ} → r ≡ answerTo s t u p → t′ ≡ definitionTableOf s (numberOf r) t → u′ ≡ spanTableOf s (numberOf r) u
+    → p′ ≡ pageBufferOf s r p → s′ ≡ s → Promise s t u p r s′ t′ u′ p′
+promised e d n b k = record {
+  answer = e;
+  number = ap numberOf e;
+  value = ap valueOf e;
+  definitions-counted = ap definitionCount e;
+  spans-counted = ap spanCount e;
+  page-measured = ap pageLength e;
+  definitions = d;
+  spans = n;
+  page = b;
+  note = k;
+}

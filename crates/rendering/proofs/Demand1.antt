@@ -11,8 +11,8 @@ use Rattle.notice.specs.Answers.{DefinitionsCounted, SpansCounted}
 use Rattle.notice.specs.Promise as reader
 use Rattle.notice.proofs.Demand1 as reader-answers
 use Rattle.rendering.specs.declared.Rendering.{Rendering}
-use Rattle.rendering.specs.Law.{PageMeasured, Due0, Due6, Answers, long, bad, few-definitions, deep, few-spans, short-page, rendered}
-use Rattle.rendering.specs.Renderer.{numberOf, valueOf, definitionCount, spanCount, pageLength, afterReading, renderingOf}
+use Rattle.rendering.specs.Answers.{numberOf, valueOf, definitionCount, spanCount, pageLength, PageMeasured, Due0, Due6, Answers, long, bad, few-definitions, deep, few-spans, short-page, rendered}
+use Rattle.rendering.specs.Reading.{afterReading, renderingOf}
 use Rattle.rendering.specs.Claims.{Demand1}
 use Rattle.rendering.proofs.Alike.{same-number, same-value, was-refused}
 use Rattle.rendering.proofs.Answers.{by-reader, the-answer, answers-iff}

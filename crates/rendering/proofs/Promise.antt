@@ -11,8 +11,8 @@ use lib.Seq.{take-at}
 use Rattle.scan.proofs.Test.{by}
 use Rattle.row.specs.Row as definitionTable
 use Rattle.span.specs.Row as spanTable
-use Rattle.note.proofs.EachRow.{by-paragraph}
-use Rattle.page.specs.Reading.{pageBy, pageOf}
+use Rattle.page.specs.ByRows.{ByRows}
+use Rattle.page.specs.Reading.{pageOf}
 use Rattle.page.proofs.Page.{page-iff}
 use Rattle.page.proofs.ByRows.{page-by-rows}
 use Rattle.notice.specs.declared.Reading.{Reading}
@@ -20,7 +20,9 @@ use Rattle.notice.specs.Promise as reader
 use Rattle.notice.specs.Claims.{DefinitionRows, SpanRows}
 use Rattle.notice.proofs.Promise as reader-promise
 use Rattle.rendering.specs.declared.Rendering.{Rendering}
-use Rattle.rendering.specs.Renderer.{numberOf, valueOf, definitionCount, spanCount, pageLength, afterReading, pageBufferOf, Promise}
+use Rattle.rendering.specs.Answers.{numberOf, valueOf, definitionCount, spanCount, pageLength}
+use Rattle.rendering.specs.Reading.{afterReading, pageBufferOf}
+use Rattle.rendering.specs.Promise.{Promise}
 use Rattle.rendering.specs.Claims.{Demand1, PageHolds, Buffers, Same, ReadsAlike}
 use Rattle.rendering.proofs.Alike.{same-number, same-value, same-counts, same-definitions, same-spans, zero-or-six, was-refused, was-read}
 use Rattle.rendering.proofs.Answers.{by-reader, page-size}
@@ -51,6 +53,10 @@ module _ {s t u p : List ℕ} {r : Rendering} {s′ t′ u′ p′ : List ℕ} (
   reader-kept =
       record {
         answer = refl;
+        number = refl;
+        value = refl;
+        definitions-counted = refl;
+        spans-counted = refl;
         definitions = m .definitions ∙ ap (λ (y : Rendering). reader.definitionTableOf s (numberOf y) t) (by-answer refl) ∙ same-definitions need (length p) s t x;
         spans = m .spans ∙ ap (λ (y : Rendering). reader.spanTableOf s (numberOf y) u) (by-answer refl) ∙ same-spans need (length p) s u x;
         note = m .note;
@@ -92,12 +98,12 @@ module _ {s t u p : List ℕ} {r : Rendering} {s′ t′ u′ p′ : List ℕ} (
       stays : PageHolds s p p′ → length p′ ≡ length p
       stays h = ap length (h .holds) ∙ rw (length-append, length-drop) (omega (arith, h .fits))
 
-  by-rows : numberOf r ≡ 0 → (d : DefinitionRows s t t′) (v : SpanRows s u u′) → take (pageLength r) p′ ≡ pageBy s (d .paragraphs) (v .rows)
+  by-rows : numberOf r ≡ 0 → (d : DefinitionRows s t t′) (v : SpanRows s u u′) → ByRows s (v .rows) (d .paragraphs) (take (pageLength r) p′)
   by-rows z d v =
       let h = page-there z in
       let size : length (h .page) ≡ pageLength r = sym (ap length (page-iff s (h .page) .1 (h .page-is))) ∙ page-size s (demand-1 .page-measured z) in
-      let page : pageBy s (d .paragraphs) (v .rows) ≡ h .page = page-by-rows s (d .definitions) (d .paragraphs) (v .rows) (d .note) (by-paragraph s (v .rows) .0 (v .each-once)) (h .page) .1 (h .page-is) in
-      ap (take (pageLength r)) (h .holds) ∙ take-at (h .page) (drop (length (h .page)) p) (pageLength r) size ∙ sym page
+      let held : h .page ≡ take (pageLength r) p′ = sym (ap (take (pageLength r)) (h .holds) ∙ take-at (h .page) (drop (length (h .page)) p) (pageLength r) size) in
+      subst (ByRows s (v .rows) (d .paragraphs)) held (page-by-rows s (d .definitions) (d .paragraphs) (v .rows) (d .note) (v .each-once) (h .page) .1 (h .page-is))
 
   -- ---- all of it
   number-is : numberOf r ≡ numberOf (afterReading need (length p) x)
@@ -126,11 +132,11 @@ module _ {s t u p : List ℕ} {r : Rendering} {s′ t′ u′ p′ : List ℕ} (
       let e : r ≡ _ = m .answer ∙ sym (q .answer) in
       record {
         answer = e;
-        number = ap numberOf e;
-        value = ap valueOf e;
-        definitions-counted = ap definitionCount e;
-        spans-counted = ap spanCount e;
-        page-measured = ap pageLength e;
+        number = m .number ∙ sym (q .number);
+        value = m .value ∙ sym (q .value);
+        definitions-counted = m .definitions-counted ∙ sym (q .definitions-counted);
+        spans-counted = m .spans-counted ∙ sym (q .spans-counted);
+        page-measured = m .page-measured ∙ sym (q .page-measured);
         definitions = m .definitions ∙ ap (λ (y : Rendering). reader.definitionTableOf s (numberOf y) t) e ∙ sym (q .definitions);
         spans = m .spans ∙ ap (λ (y : Rendering). reader.spanTableOf s (numberOf y) u) e ∙ sym (q .spans);
         page = m .page ∙ ap (λ (y : Rendering). pageBufferOf s y p) e ∙ sym (q .page);

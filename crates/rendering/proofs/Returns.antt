@@ -25,9 +25,11 @@ use Rattle.notice.proofs.Promise as reader-promise
 use Rattle.notice.proofs.Standing.{rows-stand}
 use Rattle.rendering.specs.declared.Rendering.{Rendering}
 use Rattle.rendering.specs.declared.Rendering.the-variants.{Rendered, Long, Bad, FewDefinitions, Deep, FewSpans, ShortPage}
-use Rattle.rendering.specs.Renderer.{numberOf, afterReading, pageBufferOf, Promise}
+use Rattle.rendering.specs.Answers.{numberOf}
+use Rattle.rendering.specs.Reading.{afterReading, pageBufferOf}
+use Rattle.rendering.specs.Promise.{Promise}
 use Rattle.rendering.proofs.Alike.{same-definitions, same-spans}
-use Rattle.rendering.proofs.Answers.{by-reader}
+use Rattle.rendering.proofs.Answers.{by-reader, promised}
 
 -- a table that holds the note's span rows is one to write the page from
 pub filled-spanned : (s u : List ℕ) {u′ : List ℕ} → length s ≤ noteLimit → SpanRows s u u′ → length u′ ≡ length u → Spanned s u′ (length (spanRows s))
@@ -46,14 +48,12 @@ module _ (p : List ℕ) {s t u s′ t′ u′ : List ℕ} {x : Reading} (m : rea
   need = length (pageOf s)
 
   kept : {r : Rendering} {p′ : List ℕ} → afterReading need (length p) x ≡ r → p′ ≡ pageBufferOf s r p → Promise s t u p r s′ t′ u′ p′
-  kept {r} e q =
-      record {
-        answer = sym (by-reader s (definitionTable.wholeRows t) (spanTable.wholeRows u) (length p) (sym (m .answer)) ∙ e);
-        definitions = m .definitions ∙ sym (same-definitions need (length p) s t x) ∙ ap (λ (y : Rendering). reader.definitionTableOf s (numberOf y) t) e;
-        spans = m .spans ∙ sym (same-spans need (length p) s u x) ∙ ap (λ (y : Rendering). reader.spanTableOf s (numberOf y) u) e;
-        page = q;
-        note = m .note;
-      }
+  kept e q =
+      promised (sym (by-reader s (definitionTable.wholeRows t) (spanTable.wholeRows u) (length p) (sym (m .answer)) ∙ e))
+      (m .definitions ∙ sym (same-definitions need (length p) s t x) ∙ ap (λ (y : Rendering). reader.definitionTableOf s (numberOf y) t) e)
+      (m .spans ∙ sym (same-spans need (length p) s u x) ∙ ap (λ (y : Rendering). reader.spanTableOf s (numberOf y) u) e)
+      q
+      (m .note)
 
   -- ---- it has refused
   pub too-long : {n : ℕ} → x ≡ reader-variants.Long n → Promise s t u p (Long n) s′ t′ u′ p

@@ -8,14 +8,13 @@ use Rattle.refusal.specs.Given.{Given}
 use Rattle.text.specs.Utf8.{FirstBad}
 use Rattle.note.specs.Note.{FirstDeep}
 use Rattle.page.specs.Page.{PageIs}
-use Rattle.page.specs.Reading.{pageBy}
+use Rattle.page.specs.ByRows.{ByRows}
 use Rattle.notice.specs.declared.Reading.{Reading}
 use Rattle.notice.specs.Answers.{DefinitionsCounted, SpansCounted, Due1, Due2, Due3, Due4, Due5}
 use Rattle.notice.specs.Promise as reader
 use Rattle.notice.specs.Claims.{DefinitionRows, SpanRows}
 use Rattle.rendering.specs.declared.Rendering.{Rendering}
-use Rattle.rendering.specs.Law.{PageMeasured, Due0, Due6, Answers}
-use Rattle.rendering.specs.Renderer.{numberOf, valueOf, definitionCount, spanCount, pageLength}
+use Rattle.rendering.specs.Answers.{numberOf, valueOf, definitionCount, spanCount, pageLength, PageMeasured, Due0, Due6, Answers}
 
 -- Demand 1 of the answer r to the note s, where so many whole rows of each table and so many bytes are lent.
 pub record Demand1 (s : List ℕ) (definition-rows span-rows room : ℕ) (r : Rendering) : Type 0 where
@@ -51,8 +50,8 @@ pub record Buffers (s t u p : List ℕ) (r : Rendering) (t′ u′ p′ : List �
   -- "After 6 both tables hold their rows and the page buffer is unchanged."
   pub tables-only : numberOf r ≡ 6 → DefinitionRows s t t′ × SpanRows s u u′ × (p′ ≡ p)
   pub success : numberOf r ≡ 0 → DefinitionRows s t t′ × SpanRows s u u′ × PageHolds s p p′
-  -- the page is the one that the note's paragraphs and the rows that stand in the span table call for
-  pub by-rows : numberOf r ≡ 0 → (d : DefinitionRows s t t′) (v : SpanRows s u u′) → take (pageLength r) p′ ≡ pageBy s (d .paragraphs) (v .rows)
+  -- demand 2: "The HTML is the one that the rows call for", the rows that stand in the span table, in the note's paragraphs
+  pub by-rows : numberOf r ≡ 0 → (d : DefinitionRows s t t′) (v : SpanRows s u u′) → ByRows s (v .rows) (d .paragraphs) (take (pageLength r) p′)
   -- nothing that was lent grows or shrinks
   pub definitions-size : length t′ ≡ length t
   pub spans-size : length u′ ≡ length u

@@ -31,7 +31,8 @@ use Rattle.page.specs.Reading.{firstRow, writtenBy, contentFrom, paragraphPage,
 use Rattle.notice.specs.Promise.{readingOf, definitionTableOf, spanTableOf}
 use Rattle.rendering.specs.declared.Rendering.{Rendering}
 use Rattle.rendering.specs.declared.Rendering.the-variants.{Rendered, FewDefinitions, FewSpans, ShortPage}
-use Rattle.rendering.specs.Renderer.{numberOf, renderingOf, pageBufferOf}
+use Rattle.rendering.specs.Answers.{numberOf}
+use Rattle.rendering.specs.Reading.{renderingOf, pageBufferOf}
 
 -- a note and what is lent; the answer, and what then stands in the tables and the page buffer
 pub record Sample : Type 0 where

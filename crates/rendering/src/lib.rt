@@ -1,6 +1,7 @@
 // The page writer: a note's HTML.
 ghost use mathlib.Core.Path.{_≡_};
-ghost use Rattle.rendering.specs.Renderer.{numberOf, valueOf, definitionCount, spanCount, pageLength, Promise};
+ghost use Rattle.rendering.specs.Answers.{numberOf, valueOf, definitionCount, spanCount, pageLength};
+ghost use Rattle.rendering.specs.Promise.{Promise};
 use notice::Reading;
 
 // What the page writer answers: the counts of definitions and spans and the HTML's length, or a refusal with its value.

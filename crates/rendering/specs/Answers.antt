@@ -11,6 +11,56 @@ use Rattle.notice.specs.Answers as reader
 use Rattle.rendering.specs.declared.Rendering.{Rendering}
 use Rattle.rendering.specs.declared.Rendering.the-variants.{Rendered, Long, Bad, FewDefinitions, Deep, FewSpans, ShortPage}
 
+-- ---- document 01's numbers of an answer
+-- "Success is number 0", and the refusals of the page writer
+abbrev pub numberOf : Rendering → ℕ
+numberOf (Rendered d n w) = 0
+numberOf (Long n) = 1
+numberOf (Bad k) = 2
+numberOf (FewDefinitions n) = 3
+numberOf (Deep k) = 4
+numberOf (FewSpans n) = 5
+numberOf (ShortPage n) = 6
+
+-- "Returned with it"
+abbrev pub valueOf : Rendering → ℕ
+valueOf (Rendered d n w) = 0
+valueOf (Long n) = n
+valueOf (Bad k) = k
+valueOf (FewDefinitions n) = n
+valueOf (Deep k) = k
+valueOf (FewSpans n) = n
+valueOf (ShortPage n) = n
+
+-- "with the counts of definitions and spans, from the page writer also the HTML's length"
+abbrev pub definitionCount : Rendering → ℕ
+definitionCount (Rendered d n w) = d
+definitionCount (Long n) = 0
+definitionCount (Bad k) = 0
+definitionCount (FewDefinitions n) = 0
+definitionCount (Deep k) = 0
+definitionCount (FewSpans n) = 0
+definitionCount (ShortPage n) = 0
+
+abbrev pub spanCount : Rendering → ℕ
+spanCount (Rendered d n w) = n
+spanCount (Long n) = 0
+spanCount (Bad k) = 0
+spanCount (FewDefinitions n) = 0
+spanCount (Deep k) = 0
+spanCount (FewSpans n) = 0
+spanCount (ShortPage n) = 0
+
+abbrev pub pageLength : Rendering → ℕ
+pageLength (Rendered d n w) = w
+pageLength (Long n) = 0
+pageLength (Bad k) = 0
+pageLength (FewDefinitions n) = 0
+pageLength (Deep k) = 0
+pageLength (FewSpans n) = 0
+pageLength (ShortPage n) = 0
+
+-- ---- which answer
 -- the note's HTML is so many bytes long
 pub record PageMeasured (s : List ℕ) (size : ℕ) : Type 0 where
   pub page : List ℕ

@@ -1,0 +1,70 @@
+-- The page that span rows call for: what stands on it for a range of a paragraph, by the rows that lie there. Document 01, "The page" and "Rows".
+use Prim.Native.Nat.{ℕ, _+_, _≤_, _<_}
+use mathlib.Core.Path.{_≡_}
+use mathlib.Core.List.{List, [], _∷_, _++_}
+use mathlib.Core.Bool.{true, false}
+use lib.ListN.{length, getD, drop}
+use Rattle.scan.specs.Byte.{escapes}
+use Rattle.scan.specs.Member.{In}
+use Rattle.block.specs.Block.{Placed}
+use Rattle.row.specs.declared.Range.{Range}
+use Rattle.row.specs.Row.{range}
+use Rattle.row.specs.First.{bytesOf}
+use Rattle.span.specs.declared.Span.{Span}
+use Rattle.span.specs.Row.{codeSpanKind, inlineKind, shortcutKind, span}
+use Rattle.inline.specs.Rows.{fromNote}
+use Rattle.escaping.specs.Escaping.{escaped}
+use Rattle.code.specs.Code.{CodeElement}
+use Rattle.html.specs.Tags.{LinkOpen, linkClose, paragraphOpen, paragraphClose}
+
+-- "kind, start, end, text start, text end, definition number .., destination start and end, title start and end"
+abbrev pub spanOf : List ℕ → Span
+spanOf row =
+    span (getD row 0 0) (range (getD row 1 0) (getD row 2 0)) (range (getD row 3 0) (getD row 4 0)) (getD row 5 0) (range (getD row 6 0) (getD row 7 0)) (range (getD row 8 0) (getD row 9 0))
+
+-- "1 code span"
+abbrev pub IsCode : List ℕ → Type 0
+IsCode row = spanOf row .kind ≡ codeSpanKind
+
+-- "2 inline, 3 full, 4 collapsed, 5 shortcut"
+abbrev pub IsLink : List ℕ → Type 0
+IsLink row = (inlineKind ≤ spanOf row .kind) × (spanOf row .kind ≤ shortcutKind)
+
+-- a paragraph q of the note s, which has these rows; places below are the paragraph's own
+module _ (s : List ℕ) (rows : List (List ℕ)) (q : Placed) where
+  -- "places count from the note's start": from place a of the paragraph to place b
+  abbrev pub part : ℕ → ℕ → Range
+  part a b = fromNote (q .at) (range a b)
+
+  -- the place a lies in the part r of the note
+  abbrev pub Within : ℕ → Range → Type 0
+  Within a r = (r .start ≤ q .at + a) × (q .at + a < r .end)
+
+  -- the place a is one of text: it lies in no span, or in links alone, between their brackets
+  abbrev pub TextAt : ℕ → Type 0
+  TextAt a = (row : List ℕ) → In row rows → Within a (spanOf row .whole) → IsLink row × Within a (spanOf row .text)
+
+  -- what stands on the page for the bytes from place a to place b, where neither a span nor an escape is cut
+  pub data RangeIs : ℕ → ℕ → List ℕ → Type 0 where
+    -- for no byte nothing, and for two ranges side by side the one and then the other
+    nothing : {a : ℕ} → RangeIs a a []
+    beside : {a b c : ℕ} {w v : List ℕ} → RangeIs a b w → RangeIs b c v → RangeIs a c (w ++ v)
+    -- "Escapes lose the backslash."
+    escape : {a : ℕ} → TextAt a → escapes (drop a (q .bytes)) ≡ true → RangeIs a (a + 2) (escaped (getD (q .bytes) (a + 1) 0))
+    -- "`&`, `<`, `>`, `"` become `&amp;`, `&lt;`, `&gt;`, `&quot;` in text": a byte that starts no escape
+    byte : {a : ℕ} → TextAt a → a < length (q .bytes) → escapes (drop a (q .bytes)) ≡ false → RangeIs a (a + 1) (escaped (getD (q .bytes) a 0))
+    -- "Code: `<code>`, content, `</code>`"
+    code-span : {row : List ℕ} {a b : ℕ} {w : List ℕ} → In row rows → IsCode row → spanOf row .whole ≡ part a b
+        → CodeElement (bytesOf s (spanOf row .text)) w → RangeIs a b w
+    -- "Links: `<a href="D" title="T">text</a>`": of the tail nothing stands there. An absent title is the part 0, 0, so that it is empty.
+    link : {row : List ℕ} {a b c d : ℕ} {o w : List ℕ} → In row rows → IsLink row → spanOf row .whole ≡ part a b → spanOf row .text ≡ part c d
+        → LinkOpen (bytesOf s (spanOf row .destination)) (bytesOf s (spanOf row .title)) o → RangeIs c d w → RangeIs a b (o ++ w ++ linkClose)
+
+  -- "Each paragraph: `<p>`, content, `</p>`, LF."
+  pub data ParagraphBy : List ℕ → Type 0 where
+    paragraph : {w : List ℕ} → RangeIs 0 (length (q .bytes)) w → ParagraphBy (paragraphOpen ++ w ++ paragraphClose)
+
+-- w is the page that these rows of the note s call for in these paragraphs, in order
+pub data ByRows (s : List ℕ) (rows : List (List ℕ)) : List Placed → List ℕ → Type 0 where
+  none : ByRows s rows [] []
+  more : {q : Placed} {ps : List Placed} {w v : List ℕ} → ParagraphBy s rows q w → ByRows s rows ps v → ByRows s rows (q ∷ ps) (w ++ v)
