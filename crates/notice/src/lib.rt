@@ -2,6 +2,8 @@
 pub mod answer;
 
 ghost use mathlib.Core.Path.{_≡_};
+ghost use Prim.Native.Nat.{_<_};
+ghost use lib.ListN.{length};
 ghost use Rattle.notice.specs.Promise.{Promise};
 ghost use Rattle.notice.specs.Spans.{Defined, NoteMarked, SpansRead};
 use paragraph::Tally;
@@ -18,13 +20,22 @@ pub enum Reading {
     FewSpans(usize),
 }
 
+// A mark for each byte of the longest note, and one more.
+const MARKS: usize = 32769;
+
 // The spans of the note's paragraphs: stores their rows, as many as fit, and counts them; or the place of the first bracket too many.
-fn note_spans(note: &[u8], definitions: &[u32], count: usize, spans: &mut [u32]) -> Tally
+fn note_spans(
+    note: &[u8],
+    definitions: &[u32],
+    count: usize,
+    spans: &mut [u32],
+    runs: &mut [usize; 256],
+    marks: &mut [u8],
+) -> Tally
     requires { ⌜ Defined (now note) (now definitions) count ⌝ }
+    requires { ⌜ length (now note) < length (now marks) ⌝ }
     ensures { λ r. ⌜ NoteMarked (now (note .entry)) (now (spans .entry)) r (now (spans .exit)) ⌝ }
 {
-    let mut runs = [0usize; 256];
-    let mut marks = [0u8; 32769];
     let mut at = 0;
     let mut k = 0;
     loop {
@@ -39,8 +50,8 @@ fn note_spans(note: &[u8], definitions: &[u32], count: usize, spans: &mut [u32])
             count,
             spans,
             k,
-            &mut runs,
-            &mut marks,
+            runs,
+            marks,
         ) {
             Tally::Deep(place) => {
                 return Tally::Deep(start + place);
@@ -58,13 +69,22 @@ fn read_spans(note: &[u8], definitions: &[u32], count: usize, spans: &mut [u32])
     requires { ⌜ Defined (now note) (now definitions) count ⌝ }
     ensures { λ r. ⌜ SpansRead (now (note .entry)) count (now (spans .entry)) r (now (spans .exit)) ⌝ }
 {
-    match note_spans(note, definitions, count, &mut spans[..0]) {
+    let mut runs = [0usize; 256];
+    let mut marks = [0u8; MARKS];
+    match note_spans(
+        note,
+        definitions,
+        count,
+        &mut spans[..0],
+        &mut runs,
+        &mut marks,
+    ) {
         Tally::Deep(place) => Reading::Deep(place),
         Tally::Spans(n) => {
             if span::whole_rows(spans) < n {
                 return Reading::FewSpans(n);
             }
-            note_spans(note, definitions, count, spans);
+            note_spans(note, definitions, count, spans, &mut runs, &mut marks);
             Reading::Read(count, n)
         }
     }

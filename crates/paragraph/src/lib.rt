@@ -189,7 +189,7 @@ pub fn read_paragraph(
             }
             stack[depth] = at;
             depth += 1;
-            w.at = at + 1;
+            w.at = inline::plain_end(p, at + 1);
             continue;
         }
         if (b == 93) & (0 < depth) {
@@ -205,6 +205,7 @@ pub fn read_paragraph(
                 stack[depth],
                 marks,
             );
+            w.at = inline::plain_end(p, w.at);
             continue;
         }
         w = pass_piece(p, start, spans, w, runs);

@@ -1,9 +1,9 @@
 -- Each turn reads a paragraph.
 use borrow.Author.Needs.{needs}
-use Prim.Native.Nat.{ℕ, _-_}
+use Prim.Native.Nat.{_-_}
 use native.Mathlib.Omega.{arith}
-use mathlib.Core.Path.{_≡_}
-use lib.ListN.{length, length-replicate}
+use mathlib.Core.Path.{_≡_, refl}
+use lib.ListN.{length}
 use Rattle.notice.proofs.Turns.{Going, starts, same-size, still-same-size, all-passed, less, place-fits, place-within, too-deep, further}
 use Rattle.notice.proofs.note_spans.Statement.{statement}
 use Rattle.notice.proofs.note_spans.Tie as tie
@@ -11,13 +11,13 @@ use Rattle.notice.proofs.note_spans.Tie as tie
 ruleset turns = (starts, same-size, still-same-size, all-passed, less, place-fits, place-within, too-deep, further, needs)
 
 abbrev Inv-loop : tie.InvT-loop
-Inv-loop note definitions count spans₀ runs₀ marks₀ at₀ k₀ spans runs marks at k = Going note spans₀ spans at k × (length marks ≡ 32769)
+Inv-loop note definitions count spans₀ runs₀ marks₀ at₀ k₀ spans runs marks at k = Going note spans₀ spans at k × (length marks ≡ length marks₀)
 
 abbrev μ-loop : tie.MeasureT-loop
 μ-loop note definitions count spans₀ runs₀ marks₀ at₀ k₀ spans runs marks at k = length note - at
 
 loop-holds : tie.Need-loop-holds Inv-loop μ-loop
-loop-holds c = (search turns, length-replicate {A = ℕ} 32769 0)
+loop-holds c = (search turns, refl)
 
 next-paragraph-requires : tie.Need-next-paragraph-requires Inv-loop μ-loop
 next-paragraph-requires c κs = search turns
@@ -31,14 +31,14 @@ enum-told c = search turns
 same-length : tie.Need-same-length Inv-loop μ-loop
 same-length c = search turns
 
+same-length-2 : tie.Need-same-length-2 Inv-loop μ-loop
+same-length-2 c = c .before .before .before .loop .inv .1
+
 returns : tie.Need-returns Inv-loop μ-loop
 returns c = search turns
 
-slice-aggregate-read-paragraph : tie.Need-slice-aggregate-read-paragraph Inv-loop μ-loop
-slice-aggregate-read-paragraph c = search turns
-
 read-paragraph-requires : tie.Need-read-paragraph-requires Inv-loop μ-loop
-read-paragraph-requires c κs = (search turns, (search turns, omega (arith, c .before .before .before .before .before .before .before .before .before .before .before .pre .short, c .before .before .before .before .before .before .before .loop .inv .1)))
+read-paragraph-requires c κs = (search turns, (search turns, omega (arith, c .before .before .before .before .before .before .before .before .before .before .before .before .pre .1, c .before .before .before .before .before .before .before .loop .inv .1)))
 
 enum-known-place : tie.Need-enum-known-place Inv-loop μ-loop
 enum-known-place c = search turns
@@ -46,8 +46,11 @@ enum-known-place c = search turns
 add-t21 : tie.Need-add-t21 Inv-loop μ-loop
 add-t21 c = search turns
 
-same-length-2 : tie.Need-same-length-2 Inv-loop μ-loop
-same-length-2 c = search turns
+same-length-3 : tie.Need-same-length-3 Inv-loop μ-loop
+same-length-3 c = search turns
+
+same-length-4 : tie.Need-same-length-4 Inv-loop μ-loop
+same-length-4 c = search turns
 
 returns-2 : tie.Need-returns-2 Inv-loop μ-loop
 returns-2 c = search turns
@@ -72,12 +75,13 @@ note-spans-spec =
     enum-known-start
     enum-told
     same-length
+    same-length-2
     returns
-    slice-aggregate-read-paragraph
     read-paragraph-requires
     enum-known-place
     add-t21
-    same-length-2
+    same-length-3
+    same-length-4
     returns-2
     enum-known-n
     loop-less

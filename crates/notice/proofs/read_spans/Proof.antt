@@ -1,5 +1,8 @@
 -- Each return says what was counted and stored before it.
 use borrow.Author.Needs.{needs}
+use Prim.Native.Nat.{ℕ}
+use native.Mathlib.Omega.{arith}
+use lib.ListN.{length-replicate}
 use Rattle.notice.proofs.Returns.{too-many-open, too-few-rows, all-stored}
 use Rattle.notice.proofs.read_spans.Statement.{statement}
 use Rattle.notice.proofs.read_spans.Tie as tie
@@ -12,8 +15,11 @@ slice-relend-prefix-note-spans c = search needs
 slice-aggregate-note-spans : tie.Need-slice-aggregate-note-spans
 slice-aggregate-note-spans c = search needs
 
+slice-aggregate-note-spans-2 : tie.Need-slice-aggregate-note-spans-2
+slice-aggregate-note-spans-2 c = search needs
+
 note-spans-requires : tie.Need-note-spans-requires
-note-spans-requires c κs = search needs
+note-spans-requires c κs = (c .before .before .before .before .before .before .pre, omega (arith, c .before .before .before .before .before .before .pre .short, length-replicate {A = ℕ} 32769 0))
 
 enum-known-place : tie.Need-enum-known-place
 enum-known-place c = search needs
@@ -30,8 +36,11 @@ same-length c = search needs
 returns : tie.Need-returns
 returns c = search returning
 
+slice-aggregate-note-spans-3 : tie.Need-slice-aggregate-note-spans-3
+slice-aggregate-note-spans-3 c = search needs
+
 note-spans-requires-2 : tie.Need-note-spans-requires-2
-note-spans-requires-2 c κs = search needs
+note-spans-requires-2 c κs = (c .before .before .before .before .before .before .before .before .before .before .before .before .before .before .before .before .before .before .before .pre, omega (arith, c .before .before .before .before .before .before .before .before .before .before .before .before .note-spans .kept .1 .1 .1 .1 .1 .0, c .before .before .before .before .before .before .before .before .before .before .before .before .before .before .before .before .before .before .before .pre .short, length-replicate {A = ℕ} 32769 0))
 
 same-length-2 : tie.Need-same-length-2
 same-length-2 c = search needs
@@ -51,12 +60,14 @@ read-spans-spec =
     (tie.spec
     slice-relend-prefix-note-spans
     slice-aggregate-note-spans
+    slice-aggregate-note-spans-2
     note-spans-requires
     enum-known-place
     enum-known-n
     whole-rows-requires
     same-length
     returns
+    slice-aggregate-note-spans-3
     note-spans-requires-2
     same-length-2
     returns-2

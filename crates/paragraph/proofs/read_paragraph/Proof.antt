@@ -68,14 +68,17 @@ array-write-stack c = omega (arith, c .before .before .before .before .before .l
 add-depth : tie.Need-add-depth Inv-loop μ-loop
 add-depth c = omega (arith, c .before .before .before .before .before .loop .inv .1 .fits, c .if3 .left)
 
-add-w : tie.Need-add-w Inv-loop μ-loop
-add-w c = let b = c .before .before .before .before .before .before .before .before .before .before .before .pre .0 in omega (arith, c .before .before .before .if1 .taken, part-length (c .before .before .before .before .before .before .before .before .before .before .before .args .note .now) (c .before .before .before .before .before .before .before .before .before .before .before .args .start) (c .before .before .before .before .before .before .before .before .before .before .before .args .end) (b .ordered) (b .inside), b .places)
+add-plain-end : tie.Need-add-plain-end Inv-loop μ-loop
+add-plain-end c = let b = c .before .before .before .before .before .before .before .before .before .before .before .pre .0 in omega (arith, c .before .before .before .if1 .taken, part-length (c .before .before .before .before .before .before .before .before .before .before .before .args .note .now) (c .before .before .before .before .before .before .before .before .before .before .before .args .start) (c .before .before .before .before .before .before .before .before .before .before .before .args .end) (b .ordered) (b .inside), b .places)
+
+plain-end-requires : tie.Need-plain-end-requires Inv-loop μ-loop
+plain-end-requires c κs = search needs
 
 loop-less : tie.Need-loop-less Inv-loop μ-loop
-loop-less c = omega (arith, c .before .before .before .if1 .taken)
+loop-less c = omega (arith, c .before .before .before .before .if1 .taken, plain-after _ _ (c .plain-end .ensures))
 
 loop-again : tie.Need-loop-again Inv-loop μ-loop
-loop-again c = let o = c .before .before .before .before .before .loop .inv in (o .0, open-on _ _ _ _ _ _ (o .1) (c .before .before .before .if1 .taken) (c .before .if2 .taken) (omega (arith, o .1 .fits, c .if3 .left)), o .2, parens.later (omega arith) (o .3), o .4)
+loop-again c = let o = c .before .before .before .before .before .before .loop .inv in (o .0, plain-on _ _ _ _ _ _ (open-on _ _ _ _ _ _ (o .1) (c .before .before .before .before .if1 .taken) (c .before .before .if2 .taken) (omega (arith, o .1 .fits, c .before .if3 .left))) (c .plain-end .ensures), o .2, parens.later (omega (arith, plain-after _ _ (c .plain-end .ensures))) (o .3), o .4)
 
 sub-depth : tie.Need-sub-depth Inv-loop μ-loop
 sub-depth c = let a = c .before .before .before .before .before .before .before .before .before .before .before .args in let l = c .before .before .before .before .before .loop in let q = paired-test (getD (bytesOf (a .note .now) (range (a .start) (a .end))) (l .w .at) 0) (l .depth) (c .if4 .taken) .1 in omega (arith, q, l .inv .1 .fits)
@@ -89,23 +92,26 @@ array-read-close-pair c = let a = c .before .before .before .before .before .bef
 close-pair-requires : tie.Need-close-pair-requires Inv-loop μ-loop
 close-pair-requires c κs = let o = c .before .before .before .before .before .before .before .loop .inv .1 in let e = paired-test _ _ (c .before .before .if4 .taken) in (close-pair _ _ _ _ _ _ o (c .before .before .before .before .before .if1 .taken) (e .0) _ (e .1), (bounds-here (c .before .before .before .before .before .before .before .before .before .before .before .before .before .pre .0) o (c .before .before .before .before .before .if1 .taken) _ (c .before .before .before .before .before .before .before .before .before .before .before .before .before .pre .0 .definitions), (c .before .before .before .before .before .before .before .before .before .before .before .before .before .pre .1 .0, c .before .before .before .before .before .before .before .loop .inv .3)))
 
+plain-end-requires-2 : tie.Need-plain-end-requires-2 Inv-loop μ-loop
+plain-end-requires-2 c κs = search needs
+
 loop-less-2 : tie.Need-loop-less-2 Inv-loop μ-loop
-loop-less-2 c = let e = paired-test _ _ (c .before .before .before .before .before .before .before .if4 .taken) in omega (arith, c .before .before .before .before .before .before .before .before .before .before .if1 .taken, close-less _ _ _ _ _ _ (c .before .before .before .before .before .before .before .before .before .before .before .before .loop .inv .1) (c .before .before .before .before .before .before .before .before .before .before .if1 .taken) (e .0) _ (e .1) (c .before .before .before .before .close-pair .ensures .0))
+loop-less-2 c = let e = paired-test _ _ (c .before .before .before .before .before .before .before .before .if4 .taken) in omega (arith, c .before .before .before .before .before .before .before .before .before .before .before .if1 .taken, close-less _ _ _ _ _ _ (c .before .before .before .before .before .before .before .before .before .before .before .before .before .loop .inv .1) (c .before .before .before .before .before .before .before .before .before .before .before .if1 .taken) (e .0) _ (e .1) (c .before .before .before .before .before .close-pair .ensures .0), plain-after _ _ (c .plain-end2 .ensures))
 
 loop-again-2 : tie.Need-loop-again-2 Inv-loop μ-loop
-loop-again-2 c = let e = paired-test _ _ (c .before .before .before .before .before .before .before .if4 .taken) in (c .before .before .before .before .close-pair .kept .1 .1 .1 .1 .1 .0 ∙ c .before .before .before .before .before .before .before .before .before .before .before .before .loop .inv .0, close-on _ _ _ _ _ _ (c .before .before .before .before .before .before .before .before .before .before .before .before .loop .inv .1) (c .before .before .before .before .before .before .before .before .before .before .if1 .taken) (e .0) _ (e .1) (c .before .before .before .before .close-pair .ensures .0), c .before .before .before .before .before .before .before .before .before .before .before .before .loop .inv .2, c .before .before .before .before .close-pair .ensures .1, c .before .before .before .before .close-pair .kept .1 .1 .1 .1 .1 .1 .1 .1 .0 ∙ c .before .before .before .before .before .before .before .before .before .before .before .before .loop .inv .4)
+loop-again-2 c = let e = paired-test _ _ (c .before .before .before .before .before .before .before .before .if4 .taken) in (c .before .before .before .before .before .close-pair .kept .1 .1 .1 .1 .1 .0 ∙ c .before .before .before .before .before .before .before .before .before .before .before .before .before .loop .inv .0, plain-on _ _ _ _ _ _ (close-on _ _ _ _ _ _ (c .before .before .before .before .before .before .before .before .before .before .before .before .before .loop .inv .1) (c .before .before .before .before .before .before .before .before .before .before .before .if1 .taken) (e .0) _ (e .1) (c .before .before .before .before .before .close-pair .ensures .0)) (c .plain-end2 .ensures), c .before .before .before .before .before .before .before .before .before .before .before .before .before .loop .inv .2, parens.later (omega (arith, plain-after _ _ (c .plain-end2 .ensures))) (c .before .before .before .before .before .close-pair .ensures .1), c .before .before .before .before .before .close-pair .kept .1 .1 .1 .1 .1 .1 .1 .1 .0 ∙ c .before .before .before .before .before .before .before .before .before .before .before .before .before .loop .inv .4)
 
 pass-piece-requires : tie.Need-pass-piece-requires Inv-loop μ-loop
 pass-piece-requires c κs = (c .before .before .before .before .before .if1 .taken, (bounds-here (c .before .before .before .before .before .before .before .before .before .before .before .before .before .pre .0) (c .before .before .before .before .before .before .before .loop .inv .1) (c .before .before .before .before .before .if1 .taken) _ (omega arith), c .before .before .before .before .before .before .before .loop .inv .2))
 
-plain-end-requires : tie.Need-plain-end-requires Inv-loop μ-loop
-plain-end-requires c κs = search needs
+plain-end-requires-3 : tie.Need-plain-end-requires-3 Inv-loop μ-loop
+plain-end-requires-3 c κs = search needs
 
 loop-less-3 : tie.Need-loop-less-3 Inv-loop μ-loop
-loop-less-3 c = omega (arith, c .before .before .before .before .before .before .before .before .before .if1 .taken, piece-less _ _ _ _ _ _ (c .before .before .before .before .before .before .before .before .before .before .before .loop .inv .1) (c .before .before .before .before .before .before .before .before .before .if1 .taken) (c .before .before .before .before .before .before .before .if2 .left) (unpaired-test _ _ (c .before .before .before .before .before .before .if4 .left)) (c .before .before .before .pass-piece .ensures .0 _ _), plain-after _ _ (c .plain-end .ensures))
+loop-less-3 c = omega (arith, c .before .before .before .before .before .before .before .before .before .if1 .taken, piece-less _ _ _ _ _ _ (c .before .before .before .before .before .before .before .before .before .before .before .loop .inv .1) (c .before .before .before .before .before .before .before .before .before .if1 .taken) (c .before .before .before .before .before .before .before .if2 .left) (unpaired-test _ _ (c .before .before .before .before .before .before .if4 .left)) (c .before .before .before .pass-piece .ensures .0 _ _), plain-after _ _ (c .plain-end3 .ensures))
 
 loop-again-3 : tie.Need-loop-again-3 Inv-loop μ-loop
-loop-again-3 c = (c .before .before .before .pass-piece .kept .1 .1 .0 ∙ c .before .before .before .before .before .before .before .before .before .before .before .loop .inv .0, plain-on _ _ _ _ _ _ (piece-on _ _ _ _ _ _ (c .before .before .before .before .before .before .before .before .before .before .before .loop .inv .1) (c .before .before .before .before .before .before .before .before .before .if1 .taken) (c .before .before .before .before .before .before .before .if2 .left) (unpaired-test _ _ (c .before .before .before .before .before .before .if4 .left)) (c .before .before .before .pass-piece .ensures .0 _ _)) (c .plain-end .ensures), c .before .before .before .pass-piece .ensures .1, parens.later (omega (arith, c .before .before .before .before .before .before .before .before .before .if1 .taken, piece-less _ _ _ _ _ _ (c .before .before .before .before .before .before .before .before .before .before .before .loop .inv .1) (c .before .before .before .before .before .before .before .before .before .if1 .taken) (c .before .before .before .before .before .before .before .if2 .left) (unpaired-test _ _ (c .before .before .before .before .before .before .if4 .left)) (c .before .before .before .pass-piece .ensures .0 _ _), plain-after _ _ (c .plain-end .ensures))) (c .before .before .before .before .before .before .before .before .before .before .before .loop .inv .3), c .before .before .before .before .before .before .before .before .before .before .before .loop .inv .4)
+loop-again-3 c = (c .before .before .before .pass-piece .kept .1 .1 .0 ∙ c .before .before .before .before .before .before .before .before .before .before .before .loop .inv .0, plain-on _ _ _ _ _ _ (piece-on _ _ _ _ _ _ (c .before .before .before .before .before .before .before .before .before .before .before .loop .inv .1) (c .before .before .before .before .before .before .before .before .before .if1 .taken) (c .before .before .before .before .before .before .before .if2 .left) (unpaired-test _ _ (c .before .before .before .before .before .before .if4 .left)) (c .before .before .before .pass-piece .ensures .0 _ _)) (c .plain-end3 .ensures), c .before .before .before .pass-piece .ensures .1, parens.later (omega (arith, c .before .before .before .before .before .before .before .before .before .if1 .taken, piece-less _ _ _ _ _ _ (c .before .before .before .before .before .before .before .before .before .before .before .loop .inv .1) (c .before .before .before .before .before .before .before .before .before .if1 .taken) (c .before .before .before .before .before .before .before .if2 .left) (unpaired-test _ _ (c .before .before .before .before .before .before .if4 .left)) (c .before .before .before .pass-piece .ensures .0 _ _), plain-after _ _ (c .plain-end3 .ensures))) (c .before .before .before .before .before .before .before .before .before .before .before .loop .inv .3), c .before .before .before .before .before .before .before .before .before .before .before .loop .inv .4)
 
 same-length-3 : tie.Need-same-length-3 Inv-loop μ-loop
 same-length-3 c = c .before .before .loop .inv .0
@@ -135,17 +141,19 @@ read-paragraph-spec =
     mul-stack
     array-write-stack
     add-depth
-    add-w
+    add-plain-end
+    plain-end-requires
     loop-less
     loop-again
     sub-depth
     mul-close-pair
     array-read-close-pair
     close-pair-requires
+    plain-end-requires-2
     loop-less-2
     loop-again-2
     pass-piece-requires
-    plain-end-requires
+    plain-end-requires-3
     loop-less-3
     loop-again-3
     same-length-3
