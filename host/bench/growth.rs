@@ -12,6 +12,8 @@ use crate::ours::Lent;
 const MOST: f64 = 2.2;
 /// Its time grows with the definitions as well.
 const EXCEPTED: &str = "references";
+/// How often the times of a note are taken at most.
+const MOST_TRIES: usize = 8;
 const SIZES: [usize; 3] = [LONGEST_NOTE / 4, LONGEST_NOTE / 2, LONGEST_NOTE];
 
 /// Prints the growth of the notes that are chosen, and fails where one grows too fast.
@@ -40,15 +42,29 @@ pub fn run(chosen: impl Fn(&BenchNote) -> bool) -> ExitCode {
 /// The reader's two steps, and the page writer's.
 fn growth(notes: [&BenchNote; 3]) -> [f64; 4] {
     let lent = notes.map(|note| Lent::for_note(&note.bytes));
-    let reader = times(notes, lent.clone(), Lent::read);
-    let page_writer = times(notes, lent, Lent::render);
-    let step = |times: [f64; 3], size: usize| times[size] / times[size - 1];
-    [
-        step(reader, 1),
-        step(reader, 2),
-        step(page_writer, 1),
-        step(page_writer, 2),
-    ]
+    let reader = best_of_tries(|| times(notes, lent.clone(), Lent::read));
+    let page_writer = best_of_tries(|| times(notes, lent.clone(), Lent::render));
+    let [first, second] = steps(reader);
+    let [third, fourth] = steps(page_writer);
+    [first, second, third, fourth]
+}
+
+fn steps(times: [f64; 3]) -> [f64; 2] {
+    [times[1] / times[0], times[2] / times[1]]
+}
+
+/// The best times of a few tries: another one is made where a step looks too large, since a busy
+/// machine may have slowed one of the sizes alone.
+fn best_of_tries(measure: impl Fn() -> [f64; 3]) -> [f64; 3] {
+    let mut best = [f64::INFINITY; 3];
+    for _ in 0..MOST_TRIES {
+        let times = measure();
+        best = [0, 1, 2].map(|size| best[size].min(times[size]));
+        if steps(best).iter().all(|step| *step <= MOST) {
+            break;
+        }
+    }
+    best
 }
 
 /// The best times of a call on each of the notes.

@@ -1,0 +1,110 @@
+//! How much stack a call takes: each entry runs in a thread whose stack is marked memory of ours, and
+//! what it leaves unmarked is counted. `include/notice.h` promises the bound.
+
+#![allow(unsafe_code)]
+
+use std::ffi::{c_int, c_void};
+use std::hint::black_box;
+use std::ptr::null_mut;
+
+use host::entries;
+use host::generate::bench_notes;
+use host::second::{DEFINITION_ROW_WIDTH, LONGEST_NOTE, SPAN_ROW_WIDTH};
+
+/// What `include/notice.h` promises for a call.
+const PROMISED: usize = 40 * 1024;
+/// The memory of a stack, which has room for more than the promise.
+const STACK: usize = 1 << 20;
+const PAGE: usize = 4096;
+const MARK: u8 = 0xA5;
+
+type Attributes = [u64; 8];
+type Body = extern "C" fn(*mut c_void) -> *mut c_void;
+
+extern "C" {
+    fn pthread_attr_init(attributes: *mut Attributes) -> c_int;
+    fn pthread_attr_setstack(attributes: *mut Attributes, low: *mut c_void, size: usize) -> c_int;
+    fn pthread_attr_destroy(attributes: *mut Attributes) -> c_int;
+    fn pthread_create(
+        thread: *mut usize,
+        attributes: *const Attributes,
+        body: Body,
+        given: *mut c_void,
+    ) -> c_int;
+    fn pthread_join(thread: usize, result: *mut *mut c_void) -> c_int;
+}
+
+/// What the thread is given: the call, to be made or not.
+struct Task<'t> {
+    call: &'t mut dyn FnMut(),
+    made: bool,
+}
+
+extern "C" fn run(task: *mut c_void) -> *mut c_void {
+    // SAFETY: it is the task of `depth`, which waits for this thread.
+    let task = unsafe { &mut *task.cast::<Task>() };
+    if black_box(task.made) {
+        (task.call)();
+    }
+    null_mut()
+}
+
+/// How many bytes of its stack a thread writes to that makes the call, or does not.
+fn depth(call: &mut dyn FnMut(), made: bool) -> usize {
+    let mut memory = vec![MARK; STACK + PAGE];
+    let low = memory.as_mut_ptr().align_offset(PAGE);
+    let stack = &mut memory[low..low + STACK];
+    let mut task = Task { call, made };
+    let mut attributes: Attributes = [0; 8];
+    let mut thread = 0;
+    // SAFETY: the stack and the task outlive the thread, which is waited for.
+    unsafe {
+        assert_eq!(pthread_attr_init(&mut attributes), 0);
+        let low = stack.as_mut_ptr().cast();
+        assert_eq!(pthread_attr_setstack(&mut attributes, low, STACK), 0);
+        let given = (&raw mut task).cast();
+        assert_eq!(pthread_create(&mut thread, &attributes, run, given), 0);
+        assert_eq!(pthread_join(thread, null_mut()), 0);
+        assert_eq!(pthread_attr_destroy(&mut attributes), 0);
+    }
+    let untouched = stack.iter().take_while(|byte| **byte == MARK).count();
+    STACK - untouched
+}
+
+/// How many bytes of stack a call takes, beside those of the thread itself.
+fn taken(mut call: impl FnMut()) -> usize {
+    let without = depth(&mut call, false);
+    depth(&mut call, true) - without
+}
+
+#[test]
+fn a_call_keeps_to_the_promised_stack() {
+    let rows = LONGEST_NOTE / 3 + 1;
+    let mut definitions = vec![0; rows * DEFINITION_ROW_WIDTH];
+    let mut spans = vec![0; rows * SPAN_ROW_WIDTH];
+    let mut page = vec![0; 1 << 20];
+    let mut most = [0; 3];
+    for note in bench_notes::all() {
+        let note = &note.bytes;
+        let calls = [
+            taken(|| {
+                entries::read(note, &mut definitions, &mut spans);
+            }),
+            taken(|| {
+                entries::render(note, &mut definitions, &mut spans, &mut page);
+            }),
+            taken(|| {
+                entries::resolve(note, b"limit 499");
+            }),
+        ];
+        most = [0, 1, 2].map(|entry| most[entry].max(calls[entry]));
+    }
+    println!(
+        "reader {}, page writer {}, enquiry {}",
+        most[0], most[1], most[2]
+    );
+    assert!(
+        most.iter().all(|bytes| (1..PROMISED).contains(bytes)),
+        "{most:?}"
+    );
+}
