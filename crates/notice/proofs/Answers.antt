@@ -26,7 +26,7 @@ use Rattle.note.proofs.Depth.{first-deep-iff, never-deep-iff}
 use Rattle.notice.specs.declared.Reading.{Reading}
 use Rattle.notice.specs.declared.Reading.the-variants.{FewDefinitions, FewSpans}
 use Rattle.notice.specs.Answers.{DefinitionsCounted, SpansCounted, Enough, SomeDeep, Answers, long, bad, few-definitions, deep, few-spans, read}
-use Rattle.notice.specs.Promise.{withDefinitions, readingOf}
+use Rattle.notice.specs.Reading.{withDefinitions, readingOf}
 use Rattle.notice.proofs.Order.{too-few-definitions, too-deep, too-few-spans, all-read, by-check}
 
 -- ---- what is read is what the law counts

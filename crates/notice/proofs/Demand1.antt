@@ -10,8 +10,8 @@ use Rattle.text.proofs.Refusals.{check-bad, refused-2}
 use Rattle.note.specs.Note.{FirstDeep}
 use Rattle.notice.specs.declared.Reading.{Reading}
 use Rattle.notice.specs.declared.Reading.the-variants.{Read, Long, Bad, FewDefinitions, Deep, FewSpans}
-use Rattle.notice.specs.Answers.{DefinitionsCounted, SpansCounted, Due0, Due1, Due2, Due3, Due4, Due5, Answers, long, bad, few-definitions, deep, few-spans, read}
-use Rattle.notice.specs.Promise.{numberOf, valueOf, definitionCount, spanCount, readingOf}
+use Rattle.notice.specs.Answers.{numberOf, valueOf, definitionCount, spanCount, DefinitionsCounted, SpansCounted, Due0, Due1, Due2, Due3, Due4, Due5, Answers, long, bad, few-definitions, deep, few-spans, read}
+use Rattle.notice.specs.Reading.{readingOf}
 use Rattle.notice.specs.Claims.{Demand1}
 use Rattle.notice.proofs.Answers.{first-deep, the-answer, answers-iff}
 

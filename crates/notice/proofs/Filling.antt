@@ -12,8 +12,9 @@ use Rattle.span.specs.Row.{numbers, wholeRows, filled}
 use Rattle.span.proofs.Filled.{store-next}
 use Rattle.inline.specs.Tails.{Tail}
 use Rattle.inline.specs.ReadingRows.{rowFor, spanRow}
-use Rattle.paragraph.specs.Rows.{storedAll}
-use Rattle.notice.specs.Promise.{spanNumbers, spansFilled}
+use Rattle.paragraph.specs.Reading.{storedAll}
+use Rattle.notice.specs.Reading.{spansFilled}
+use Rattle.notice.specs.Claims.{spanNumbers}
 
 pub store-all : (t₀ : List ℕ) (passed xs : List Span) {t : List ℕ} {k : ℕ} → t ≡ filled passed t₀ → k ≡ length passed → storedAll t k xs ≡ filled (passed ++ xs) t₀
 unfolding storedAll

@@ -10,7 +10,7 @@ use Rattle.text.specs.Reading.{checkOf}
 use Rattle.definition.specs.Reading.{definitions}
 use Rattle.note.specs.Reading.{spanRows, firstDeep}
 use Rattle.notice.specs.declared.Reading.the-variants.{Read, FewDefinitions, Deep, FewSpans}
-use Rattle.notice.specs.Promise.{badOr, withSpans, withDefinitions, readingOf}
+use Rattle.notice.specs.Reading.{badOr, withSpans, withDefinitions, readingOf}
 
 module _ (a : ℕ) (o : Option ℕ) (b lent lent′ : ℕ) where
   pub too-few-definitions : lent < a → withDefinitions a o b lent lent′ ≡ FewDefinitions a

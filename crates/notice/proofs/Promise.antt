@@ -5,8 +5,9 @@ use mathlib.Core.List.{List}
 use Rattle.row.specs.Row as definitionTable
 use Rattle.span.specs.Row as spanTable
 use Rattle.notice.specs.declared.Reading.{Reading}
-use Rattle.notice.specs.Answers.{Answers}
-use Rattle.notice.specs.Promise.{numberOf, valueOf, definitionCount, spanCount, definitionTableOf, spanTableOf, Promise}
+use Rattle.notice.specs.Answers.{numberOf, valueOf, definitionCount, spanCount, Answers}
+use Rattle.notice.specs.Reading.{definitionTableOf, spanTableOf}
+use Rattle.notice.specs.Promise.{Promise}
 use Rattle.notice.specs.Claims.{Demand1, Tables, Same}
 use Rattle.notice.proofs.Answers.{the-answer}
 use Rattle.notice.proofs.Demand1 as answers

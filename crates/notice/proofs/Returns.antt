@@ -26,7 +26,9 @@ use Rattle.paragraph.specs.declared.Tally.the-variants as tallies
 use Rattle.paragraph.specs.Tally as tally
 use Rattle.notice.specs.declared.Reading.{Reading}
 use Rattle.notice.specs.declared.Reading.the-variants.{Read, Long, Bad, FewDefinitions, Deep, FewSpans}
-use Rattle.notice.specs.Promise.{numberOf, valueOf, definitionCount, spanCount, withSpans, spansFilled, definitionTableOf, spanTableOf, answerTo, Promise}
+use Rattle.notice.specs.Answers.{numberOf, valueOf, definitionCount, spanCount}
+use Rattle.notice.specs.Reading.{withSpans, spansFilled, definitionTableOf, spanTableOf}
+use Rattle.notice.specs.Promise.{answerTo, Promise}
 use Rattle.notice.specs.Spans.{Defined, NoteMarked, SpansRead}
 use Rattle.notice.proofs.Order.{by-check, too-few-definitions, enough-definitions}
 use Rattle.notice.proofs.Turns.{was-spans, was-deep}

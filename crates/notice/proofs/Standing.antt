@@ -10,8 +10,7 @@ use Rattle.note.specs.Reading.{spanRows}
 use Rattle.note.proofs.EachRow.{each-row-iff}
 use Rattle.note.proofs.Placing.{at-getD}
 use Rattle.note.proofs.Fits.{rows-fit}
-use Rattle.notice.specs.Promise.{spanNumbers}
-use Rattle.notice.specs.Claims.{SpanRows}
+use Rattle.notice.specs.Claims.{spanNumbers, SpanRows}
 
 -- row k of the table is the note's span row k
 pub rows-stand : (s u : List ℕ) {u′ : List ℕ} → SpanRows s u u′ → (k : ℕ) → k < length (spanRows s) → getElem? (spanRows s) k ≡ some (rowAt u′ k)

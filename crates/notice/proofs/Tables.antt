@@ -20,9 +20,9 @@ use Rattle.note.proofs.EachRow.{each-row-iff}
 use Rattle.note.proofs.Fits as fitting
 use Rattle.note.proofs.References.{references-refer}
 use Rattle.notice.specs.declared.Reading.{Reading}
-use Rattle.notice.specs.Answers.{DefinitionsCounted, SpansCounted, Enough, Answers, long, bad, few-definitions, deep, few-spans, read}
-use Rattle.notice.specs.Promise.{numberOf, spanNumbers, spansFilled, definitionTableOf, spanTableOf}
-use Rattle.notice.specs.Claims.{DefinitionRows, SpanRows, Tables}
+use Rattle.notice.specs.Answers.{numberOf, DefinitionsCounted, SpansCounted, Enough, Answers, long, bad, few-definitions, deep, few-spans, read}
+use Rattle.notice.specs.Reading.{spansFilled, definitionTableOf, spanTableOf}
+use Rattle.notice.specs.Claims.{spanNumbers, DefinitionRows, SpanRows, Tables}
 use Rattle.notice.proofs.Answers.{definition-count, span-count}
 
 -- ---- rows of ten numbers

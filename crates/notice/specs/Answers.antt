@@ -15,6 +15,43 @@ use Rattle.note.specs.Note.{depthLimit, Marked, EachRowOnce, FirstDeep, NeverDe
 use Rattle.notice.specs.declared.Reading.{Reading}
 use Rattle.notice.specs.declared.Reading.the-variants.{Read, Long, Bad, FewDefinitions, Deep, FewSpans}
 
+-- ---- document 01's numbers of an answer
+-- "Success is number 0", and the refusals of the reader
+abbrev pub numberOf : Reading → ℕ
+numberOf (Read d n) = 0
+numberOf (Long n) = 1
+numberOf (Bad k) = 2
+numberOf (FewDefinitions n) = 3
+numberOf (Deep k) = 4
+numberOf (FewSpans n) = 5
+
+-- "Returned with it"
+abbrev pub valueOf : Reading → ℕ
+valueOf (Read d n) = 0
+valueOf (Long n) = n
+valueOf (Bad k) = k
+valueOf (FewDefinitions n) = n
+valueOf (Deep k) = k
+valueOf (FewSpans n) = n
+
+-- "with the counts of definitions and spans"
+abbrev pub definitionCount : Reading → ℕ
+definitionCount (Read d n) = d
+definitionCount (Long n) = 0
+definitionCount (Bad k) = 0
+definitionCount (FewDefinitions n) = 0
+definitionCount (Deep k) = 0
+definitionCount (FewSpans n) = 0
+
+abbrev pub spanCount : Reading → ℕ
+spanCount (Read d n) = n
+spanCount (Long n) = 0
+spanCount (Bad k) = 0
+spanCount (FewDefinitions n) = 0
+spanCount (Deep k) = 0
+spanCount (FewSpans n) = 0
+
+-- ---- what is counted
 -- the note has so many definitions, "repeats too"
 pub record DefinitionsCounted (s : List ℕ) (count : ℕ) : Type 0 where
   pub definitions : List Definition

@@ -9,14 +9,14 @@ use Rattle.text.specs.Utf8.{FirstBad}
 use Rattle.scan.specs.Member.{In}
 use Rattle.block.specs.Block.{Placed}
 use Rattle.row.specs.declared.Definition.{Definition}
+use Rattle.rows.specs.Rows
 use Rattle.row.specs.Row as definitionTable
 use Rattle.definition.specs.Note.{NoteIs}
 use Rattle.span.specs.Row as spanTable
 use Rattle.note.specs.Note.{EachRowOnce, FirstDeep}
 use Rattle.note.specs.Claims.{RefersTo}
 use Rattle.notice.specs.declared.Reading.{Reading}
-use Rattle.notice.specs.Answers.{DefinitionsCounted, SpansCounted, Due0, Due1, Due2, Due3, Due4, Due5, Answers}
-use Rattle.notice.specs.Promise.{numberOf, valueOf, definitionCount, spanCount, spanNumbers}
+use Rattle.notice.specs.Answers.{numberOf, valueOf, definitionCount, spanCount, DefinitionsCounted, SpansCounted, Due0, Due1, Due2, Due3, Due4, Due5, Answers}
 
 -- Demand 1 of the answer r to the note s, where so many whole rows of each table are lent.
 pub record Demand1 (s : List ℕ) (definition-rows span-rows : ℕ) (r : Reading) : Type 0 where
@@ -33,6 +33,10 @@ pub record Demand1 (s : List ℕ) (definition-rows span-rows : ℕ) (r : Reading
   pub answers : (x : Reading) → (r ≡ x) ↔ Answers s definition-rows span-rows x
 
 -- ---- the tables
+-- the rows one after the other
+abbrev pub spanNumbers : List (List ℕ) → List ℕ
+spanNumbers = Rows.rows (λ row. row)
+
 -- Demand 2 of definitions: the table t has become t′. "All definitions stand there in note order, repeats too."
 pub record DefinitionRows (s t t′ : List ℕ) : Type 0 where
   pub definitions : List Definition

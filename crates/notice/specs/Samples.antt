@@ -25,7 +25,8 @@ use Rattle.inline.specs.ReadingTails.{closedAt, afterDestination, inlineOf, lab
 use Rattle.note.specs.Reading.{labels, rowsIn, spanRows, deepIn, firstDeep}
 use Rattle.notice.specs.declared.Reading.{Reading}
 use Rattle.notice.specs.declared.Reading.the-variants.{Read, Long, Bad, FewDefinitions, Deep, FewSpans}
-use Rattle.notice.specs.Promise.{numberOf, readingOf, definitionTableOf, spanTableOf}
+use Rattle.notice.specs.Answers.{numberOf}
+use Rattle.notice.specs.Reading.{readingOf, definitionTableOf, spanTableOf}
 
 pub record Sample : Type 0 where
   pub note : List ℕ

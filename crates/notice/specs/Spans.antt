@@ -11,7 +11,8 @@ use Rattle.note.specs.Reading.{spanRows, firstDeep}
 use Rattle.paragraph.specs.declared.Tally.{Tally}
 use Rattle.paragraph.specs.Tally as tally
 use Rattle.notice.specs.declared.Reading.{Reading}
-use Rattle.notice.specs.Promise.{numberOf, spansFilled, withSpans, spanTableOf}
+use Rattle.notice.specs.Answers.{numberOf}
+use Rattle.notice.specs.Reading.{spansFilled, withSpans, spanTableOf}
 
 -- the note is within the limit, and the first `count` rows of the table t are those of its definitions
 pub record Defined (s t : List ℕ) (count : ℕ) : Type 0 where

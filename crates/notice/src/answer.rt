@@ -1,7 +1,7 @@
 // Document 01's numbers of an answer.
 use crate::Reading;
 ghost use mathlib.Core.Path.{_≡_};
-ghost use Rattle.notice.specs.Promise.{numberOf, valueOf, definitionCount, spanCount};
+ghost use Rattle.notice.specs.Answers.{numberOf, valueOf, definitionCount, spanCount};
 
 // The answer's number.
 pub fn number(reading: Reading) -> u64

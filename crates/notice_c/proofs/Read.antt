@@ -8,8 +8,8 @@ use Rattle.row.specs.Row as definitionTable
 use Rattle.span.specs.Row as spanTable
 use Rattle.notice.specs.declared.Reading.{Reading}
 use Rattle.notice.specs.declared.Reading.the-variants.{Read, Long, Bad, FewDefinitions, Deep, FewSpans}
-use Rattle.notice.specs.Answers.{Answers}
-use Rattle.notice.specs.Promise.{numberOf, valueOf, definitionCount, spanCount, Promise}
+use Rattle.notice.specs.Answers.{numberOf, valueOf, definitionCount, spanCount, Answers}
+use Rattle.notice.specs.Promise.{Promise}
 use Rattle.notice.proofs.Answers.{answers-iff}
 use Rattle.notice_c.specs.Read.{reading, numbersOf, ReadPromise}
 

@@ -5,7 +5,8 @@ use mathlib.Core.List.{List, [], _∷_}
 use Rattle.row.specs.Row as definitionTable
 use Rattle.span.specs.Row as spanTable
 use Rattle.notice.specs.declared.Reading.{Reading}
-use Rattle.notice.specs.Promise.{numberOf, valueOf, definitionCount, spanCount, readingOf, definitionTableOf, spanTableOf}
+use Rattle.notice.specs.Answers.{numberOf, valueOf, definitionCount, spanCount}
+use Rattle.notice.specs.Reading.{readingOf, definitionTableOf, spanTableOf}
 
 -- the reader's answer to the note s with the definition table t and the span table u
 abbrev pub reading : List ℕ → List ℕ → List ℕ → Reading

@@ -33,10 +33,10 @@ use Rattle.tail.specs.declared.Way.{Way}
 use Rattle.tail.specs.declared.Way.the-variants as ways
 use Rattle.tail.specs.declared.ReadTail.{ReadTail}
 use Rattle.tail.specs.Ending.{labelsIn, shownBy, shown}
-use Rattle.paragraph.specs.Rows.{linkRow, Names}
-use Rattle.paragraph.specs.Walk.{Pair, Bounds}
+use Rattle.link.specs.Reading.{linkRow, Names}
+use Rattle.paragraph.specs.Promise.{Pair, Bounds}
 use Rattle.paragraph.specs.declared.Walk.{Walk}
-use Rattle.paragraph.proofs.LinkRows.{definition-in}
+use Rattle.link.proofs.LinkRows.{definition-in}
 use Rattle.paragraph.proofs.Pieces.{at-close}
 
 abbrev pub PartTo : ℕ → Option Range → Type 0

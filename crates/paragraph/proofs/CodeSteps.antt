@@ -22,7 +22,7 @@ use Rattle.inline.proofs.Turns.{from-backticks}
 use Rattle.inline.proofs.PieceBounds.{closingRun-within, run-fits}
 use Rattle.ticks.proofs.Passing.{past-halts, past-some}
 use Rattle.inline.specs.ReadingRows.{rowFor}
-use Rattle.paragraph.specs.Walk.{BacktickAt}
+use Rattle.paragraph.specs.Promise.{BacktickAt}
 use Rattle.paragraph.specs.declared.Walk.{Walk}
 use Rattle.paragraph.proofs.Pieces.{no-escape}
 

@@ -1,4 +1,3 @@
-pub mod LinkRows
 pub mod Marks
 pub mod Bounds
 pub mod Pieces

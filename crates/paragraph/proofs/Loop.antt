@@ -23,8 +23,8 @@ use Rattle.inline.specs.ReadingPieces.{pieceFrom}
 use Rattle.inline.specs.Reading.{grammar}
 use Rattle.inline.specs.ReadingRows.{rowFor}
 use Rattle.inline.proofs.Computing.{sound}
-use Rattle.paragraph.specs.Rows.{storedAll}
-use Rattle.paragraph.specs.Walk.{spansAt, Steps, Reads}
+use Rattle.paragraph.specs.Reading.{storedAll}
+use Rattle.paragraph.specs.Promise.{spansAt, Steps, Reads}
 use Rattle.paragraph.specs.declared.Walk.{Walk}
 use Rattle.paragraph.specs.declared.Tally.the-variants.{Spans}
 

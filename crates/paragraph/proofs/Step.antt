@@ -18,8 +18,9 @@ use Rattle.inline.specs.Tails.{Tail, lengthOf}
 use Rattle.inline.specs.ReadingPieces.{piece, pieceFrom}
 use Rattle.inline.specs.Reading.{grammar, tailAt}
 use Rattle.inline.specs.ReadingRows.{rowFor}
-use Rattle.paragraph.specs.Rows.{linkRow, storedAll}
-use Rattle.paragraph.specs.Walk.{spansAt, Steps, closing}
+use Rattle.link.specs.Reading.{linkRow}
+use Rattle.paragraph.specs.Reading.{storedAll}
+use Rattle.paragraph.specs.Promise.{spansAt, Steps, closing}
 use Rattle.paragraph.specs.declared.Walk.{Walk}
 use Rattle.paragraph.proofs.Pieces.{at-open, at-close}
 

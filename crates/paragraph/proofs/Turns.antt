@@ -29,9 +29,9 @@ use Rattle.inline.specs.Tails.{Tail}
 use Rattle.inline.specs.ReadingPieces.{closingRun, piece, spanOrText, pieceFrom}
 use Rattle.inline.proofs.Turns.{from-escape, from-backticks, from-byte}
 use Rattle.inline.specs.Reading.{grammar}
-use Rattle.paragraph.specs.Walk as walk
+use Rattle.paragraph.specs.Promise as walk
 use Rattle.paragraph.specs.Tally.{tallyOf}
-use Rattle.paragraph.specs.Walk.{Steps, Reads, Pair, Bounds, Lies}
+use Rattle.paragraph.specs.Promise.{Steps, Reads, Pair, Bounds, Lies}
 use Rattle.paragraph.specs.declared.Walk.{Walk}
 use Rattle.paragraph.specs.declared.Tally.the-variants.{Deep}
 use Rattle.paragraph.proofs.Pieces.{at-open, at-close}

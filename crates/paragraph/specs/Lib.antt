@@ -1,4 +1,4 @@
-pub mod Rows
+pub mod Reading
 pub mod Tally
-pub mod Walk
+pub mod Promise
 pub mod Samples

@@ -7,7 +7,7 @@ use Rattle.row.specs.Row.{range}
 use Rattle.rows.specs.Rows as rows
 use Rattle.span.specs.declared.Span.{Span}
 use Rattle.span.specs.Row.{numbers, codeSpanRow, shortcutRow}
-use Rattle.paragraph.specs.Rows.{storedAll}
+use Rattle.paragraph.specs.Reading.{storedAll}
 
 -- `Use [max].` at place 23, with the definition of the whole example; and a code span after it
 abbrev link : Span

@@ -1,6 +1,4 @@
 // The spans of one paragraph, read from left to right.
-mod link;
-
 ghost use Prim.Native.Nat.{_<_};
 ghost use lib.ListN.{length};
 ghost use Rattle.row.specs.First.{bytesOf};
@@ -9,7 +7,7 @@ ghost use Rattle.row.specs.Reading.{Fit, definitionsFrom};
 ghost use Rattle.parens.specs.Unclosed.{Prepared};
 ghost use Rattle.ticks.specs.LastRuns.{Ready};
 ghost use Rattle.tail.specs.Ending.{labelsIn};
-ghost use Rattle.paragraph.specs.Walk.{Pair, BacktickAt, Bounds, Closes, Passes, Lies, Reads};
+ghost use Rattle.paragraph.specs.Promise.{Pair, BacktickAt, Bounds, Closes, Passes, Lies, Reads};
 use row::Range;
 use scan::Found;
 use span::Span;

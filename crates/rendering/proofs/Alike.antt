@@ -8,7 +8,8 @@ use lib.Dec.{ltb}
 use Rattle.scan.proofs.Test.{by}
 use Rattle.notice.specs.declared.Reading.{Reading}
 use Rattle.notice.specs.declared.Reading.the-variants.{Read, Long, Bad, FewDefinitions, Deep, FewSpans}
-use Rattle.notice.specs.Promise as reader
+use Rattle.notice.specs.Answers as reader
+use Rattle.notice.specs.Reading.{definitionTableOf, spanTableOf}
 use Rattle.rendering.specs.declared.Rendering.{Rendering}
 use Rattle.rendering.specs.Answers.{numberOf, valueOf, definitionCount, spanCount}
 use Rattle.rendering.specs.Reading.{afterReading}
@@ -73,11 +74,11 @@ module _ (need room : ℕ) where
             by (ltb room need) (λ t. let q : numberOf (after x) ≡ 6 = rw (e, t) refl in absurd (omega (arith, q))) (λ f. (rw (e, f) refl, rw (e, f) refl))
 
   -- ---- the tables
-  pub same-definitions : (s t : List ℕ) (x : Reading) → reader.definitionTableOf s (numberOf (after x)) t ≡ reader.definitionTableOf s (reader.numberOf x) t
+  pub same-definitions : (s t : List ℕ) (x : Reading) → definitionTableOf s (numberOf (after x)) t ≡ definitionTableOf s (reader.numberOf x) t
   same-definitions s t x =
       by-reading x (λ d n e. rw e (by (ltb room need) (λ q. rw q refl) (λ q. rw q refl))) (λ w. rw (w .number) refl)
 
-  pub same-spans : (s u : List ℕ) (x : Reading) → reader.spanTableOf s (numberOf (after x)) u ≡ reader.spanTableOf s (reader.numberOf x) u
+  pub same-spans : (s u : List ℕ) (x : Reading) → spanTableOf s (numberOf (after x)) u ≡ spanTableOf s (reader.numberOf x) u
   same-spans s u (Read d n) = by (ltb room need) (λ q. rw q refl) (λ q. rw q refl)
   same-spans s u (Long n) = refl
   same-spans s u (Bad k) = refl

@@ -11,7 +11,7 @@ use Rattle.page.specs.Reading.{pageOf}
 use Rattle.page.proofs.Page.{page-iff}
 use Rattle.notice.specs.declared.Reading.{Reading}
 use Rattle.notice.specs.Answers as reader
-use Rattle.notice.specs.Promise.{readingOf, definitionTableOf, spanTableOf}
+use Rattle.notice.specs.Reading.{readingOf, definitionTableOf, spanTableOf}
 use Rattle.notice.proofs.Answers as reader-answers
 use Rattle.rendering.specs.declared.Rendering.{Rendering}
 use Rattle.rendering.specs.Answers.{numberOf, valueOf, definitionCount, spanCount, pageLength, PageMeasured, Answers, long, bad, few-definitions, deep, few-spans, short-page, rendered}

@@ -8,7 +8,8 @@ use Rattle.refusal.specs.Given.{Given}
 use Rattle.page.specs.Reading.{pageOf}
 use Rattle.notice.specs.declared.Reading.{Reading}
 use Rattle.notice.specs.Answers.{DefinitionsCounted, SpansCounted}
-use Rattle.notice.specs.Promise as reader
+use Rattle.notice.specs.Answers as reader
+use Rattle.notice.specs.Reading.{readingOf}
 use Rattle.notice.proofs.Demand1 as reader-answers
 use Rattle.rendering.specs.declared.Rendering.{Rendering}
 use Rattle.rendering.specs.Answers.{numberOf, valueOf, definitionCount, spanCount, pageLength, PageMeasured, Due0, Due6, Answers, long, bad, few-definitions, deep, few-spans, short-page, rendered}
@@ -23,7 +24,7 @@ module _ (s : List ℕ) (d n room : ℕ) where
 
   -- ---- 1 to 5
   abbrev x : Reading
-  x = reader.readingOf s d n
+  x = readingOf s d n
 
   abbrev need : ℕ
   need = length (pageOf s)

@@ -16,7 +16,9 @@ use Rattle.page.specs.Reading.{pageOf}
 use Rattle.page.proofs.Page.{page-iff}
 use Rattle.page.proofs.ByRows.{page-by-rows}
 use Rattle.notice.specs.declared.Reading.{Reading}
-use Rattle.notice.specs.Promise as reader
+use Rattle.notice.specs.Answers as reader
+use Rattle.notice.specs.Reading.{readingOf, definitionTableOf, spanTableOf}
+use Rattle.notice.specs.Promise.{Promise as ReaderPromise}
 use Rattle.notice.specs.Claims.{DefinitionRows, SpanRows}
 use Rattle.notice.proofs.Promise as reader-promise
 use Rattle.rendering.specs.declared.Rendering.{Rendering}
@@ -43,13 +45,13 @@ module _ {s t u p : List ℕ} {r : Rendering} {s′ t′ u′ p′ : List ℕ} (
   need = length (pageOf s)
 
   abbrev x : Reading
-  x = reader.readingOf s definition-rows span-rows
+  x = readingOf s definition-rows span-rows
 
   by-answer : {y : Reading} → y ≡ x → r ≡ afterReading need (length p) y
   by-answer e = m .answer ∙ by-reader s definition-rows span-rows (length p) (sym e)
 
   -- the reader's answer, and the same tables, keep the reader's promise
-  reader-kept : reader.Promise s t u x s′ t′ u′
+  reader-kept : ReaderPromise s t u x s′ t′ u′
   reader-kept =
       record {
         answer = refl;
@@ -57,12 +59,12 @@ module _ {s t u p : List ℕ} {r : Rendering} {s′ t′ u′ p′ : List ℕ} (
         value = refl;
         definitions-counted = refl;
         spans-counted = refl;
-        definitions = m .definitions ∙ ap (λ (y : Rendering). reader.definitionTableOf s (numberOf y) t) (by-answer refl) ∙ same-definitions need (length p) s t x;
-        spans = m .spans ∙ ap (λ (y : Rendering). reader.spanTableOf s (numberOf y) u) (by-answer refl) ∙ same-spans need (length p) s u x;
+        definitions = m .definitions ∙ ap (λ (y : Rendering). definitionTableOf s (numberOf y) t) (by-answer refl) ∙ same-definitions need (length p) s t x;
+        spans = m .spans ∙ ap (λ (y : Rendering). spanTableOf s (numberOf y) u) (by-answer refl) ∙ same-spans need (length p) s u x;
         note = m .note;
       }
 
-  pub reads-alike : {y : Reading} {s₂ t₂ u₂ : List ℕ} → reader.Promise s t u y s₂ t₂ u₂ → ReadsAlike y t₂ u₂ r t′ u′
+  pub reads-alike : {y : Reading} {s₂ t₂ u₂ : List ℕ} → ReaderPromise s t u y s₂ t₂ u₂ → ReadsAlike y t₂ u₂ r t′ u′
   reads-alike {y} q =
       let e : r ≡ afterReading need (length p) y = by-answer (q .answer) in
       let same = reader-promise.one-answer reader-kept q in
@@ -137,7 +139,7 @@ module _ {s t u p : List ℕ} {r : Rendering} {s′ t′ u′ p′ : List ℕ} (
         definitions-counted = m .definitions-counted ∙ sym (q .definitions-counted);
         spans-counted = m .spans-counted ∙ sym (q .spans-counted);
         page-measured = m .page-measured ∙ sym (q .page-measured);
-        definitions = m .definitions ∙ ap (λ (y : Rendering). reader.definitionTableOf s (numberOf y) t) e ∙ sym (q .definitions);
-        spans = m .spans ∙ ap (λ (y : Rendering). reader.spanTableOf s (numberOf y) u) e ∙ sym (q .spans);
+        definitions = m .definitions ∙ ap (λ (y : Rendering). definitionTableOf s (numberOf y) t) e ∙ sym (q .definitions);
+        spans = m .spans ∙ ap (λ (y : Rendering). spanTableOf s (numberOf y) u) e ∙ sym (q .spans);
         page = m .page ∙ ap (λ (y : Rendering). pageBufferOf s y p) e ∙ sym (q .page);
       }

@@ -18,7 +18,9 @@ use Rattle.page.specs.Reading.{pageOf}
 use Rattle.cursor.specs.Spanned.{Spanned}
 use Rattle.notice.specs.declared.Reading.{Reading}
 use Rattle.notice.specs.declared.Reading.the-variants as reader-variants
-use Rattle.notice.specs.Promise as reader
+use Rattle.notice.specs.Answers as reader
+use Rattle.notice.specs.Reading.{definitionTableOf, spanTableOf}
+use Rattle.notice.specs.Promise.{Promise as ReaderPromise}
 use Rattle.notice.specs.Claims.{SpanRows}
 use Rattle.notice.proofs.Answers.{span-count}
 use Rattle.notice.proofs.Promise as reader-promise
@@ -43,15 +45,15 @@ filled-spanned s u {u′} h v e =
     }
 
 -- the reader has answered x
-module _ (p : List ℕ) {s t u s′ t′ u′ : List ℕ} {x : Reading} (m : reader.Promise s t u x s′ t′ u′) where
+module _ (p : List ℕ) {s t u s′ t′ u′ : List ℕ} {x : Reading} (m : ReaderPromise s t u x s′ t′ u′) where
   abbrev need : ℕ
   need = length (pageOf s)
 
   kept : {r : Rendering} {p′ : List ℕ} → afterReading need (length p) x ≡ r → p′ ≡ pageBufferOf s r p → Promise s t u p r s′ t′ u′ p′
   kept e q =
       promised (sym (by-reader s (definitionTable.wholeRows t) (spanTable.wholeRows u) (length p) (sym (m .answer)) ∙ e))
-      (m .definitions ∙ sym (same-definitions need (length p) s t x) ∙ ap (λ (y : Rendering). reader.definitionTableOf s (numberOf y) t) e)
-      (m .spans ∙ sym (same-spans need (length p) s u x) ∙ ap (λ (y : Rendering). reader.spanTableOf s (numberOf y) u) e)
+      (m .definitions ∙ sym (same-definitions need (length p) s t x) ∙ ap (λ (y : Rendering). definitionTableOf s (numberOf y) t) e)
+      (m .spans ∙ sym (same-spans need (length p) s u x) ∙ ap (λ (y : Rendering). spanTableOf s (numberOf y) u) e)
       q
       (m .note)
 

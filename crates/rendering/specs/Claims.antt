@@ -11,7 +11,7 @@ use Rattle.page.specs.Page.{PageIs}
 use Rattle.page.specs.ByRows.{ByRows}
 use Rattle.notice.specs.declared.Reading.{Reading}
 use Rattle.notice.specs.Answers.{DefinitionsCounted, SpansCounted, Due1, Due2, Due3, Due4, Due5}
-use Rattle.notice.specs.Promise as reader
+use Rattle.notice.specs.Answers as reader
 use Rattle.notice.specs.Claims.{DefinitionRows, SpanRows}
 use Rattle.rendering.specs.declared.Rendering.{Rendering}
 use Rattle.rendering.specs.Answers.{numberOf, valueOf, definitionCount, spanCount, pageLength, PageMeasured, Due0, Due6, Answers}

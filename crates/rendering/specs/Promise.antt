@@ -5,7 +5,7 @@ use mathlib.Core.List.{List}
 use lib.ListN.{length}
 use Rattle.row.specs.Row as definitionTable
 use Rattle.span.specs.Row as spanTable
-use Rattle.notice.specs.Promise.{definitionTableOf, spanTableOf}
+use Rattle.notice.specs.Reading.{definitionTableOf, spanTableOf}
 use Rattle.rendering.specs.declared.Rendering.{Rendering}
 use Rattle.rendering.specs.Answers.{numberOf, valueOf, definitionCount, spanCount, pageLength}
 use Rattle.rendering.specs.Reading.{renderingOf, pageBufferOf}

@@ -7,7 +7,7 @@ use lib.Dec.{eqb, ltb}
 use Rattle.page.specs.Reading.{pageOf}
 use Rattle.notice.specs.declared.Reading.{Reading}
 use Rattle.notice.specs.declared.Reading.the-variants as reader
-use Rattle.notice.specs.Promise.{readingOf}
+use Rattle.notice.specs.Reading.{readingOf}
 use Rattle.rendering.specs.declared.Rendering.{Rendering}
 use Rattle.rendering.specs.declared.Rendering.the-variants.{Rendered, Long, Bad, FewDefinitions, Deep, FewSpans, ShortPage}
 use Rattle.rendering.specs.Answers.{numberOf}

@@ -28,7 +28,7 @@ use Rattle.escaping.specs.Reading.{undone}
 use Rattle.code.specs.Reading.{margin}
 use Rattle.html.specs.Reading.{titleAttribute, linkOpen}
 use Rattle.page.specs.Reading.{firstRow, writtenBy, contentFrom, paragraphPage, pageBy, pageOf}
-use Rattle.notice.specs.Promise.{readingOf, definitionTableOf, spanTableOf}
+use Rattle.notice.specs.Reading.{readingOf, definitionTableOf, spanTableOf}
 use Rattle.rendering.specs.declared.Rendering.{Rendering}
 use Rattle.rendering.specs.declared.Rendering.the-variants.{Rendered, FewDefinitions, FewSpans, ShortPage}
 use Rattle.rendering.specs.Answers.{numberOf}

@@ -1,7 +1,6 @@
-// Runs the three entries on the cases of standard input (container.rt). Prints the reader's answer with both tables whole, the page
+// Runs the three entries on the cases of standard input (crate container). Prints the reader's answer with both tables whole, the page
 // writer's with both tables and the page buffer whole, and the enquiry's with the part that it hands back. What is lent and not
 // written shows as the guard.
-mod container;
 mod print;
 
 use container::Header;
@@ -10,7 +9,7 @@ use libc::STDIN_FILENO;
 ghost use Prim.Native.Nat.{_≤_};
 ghost use mathlib.Core.Path.{_≡_};
 ghost use lib.ListN.{length};
-ghost use Rattle.samples.specs.Container.{Lendable, Framed};
+ghost use Rattle.container.specs.Container.{Lendable, Framed};
 
 // What each lent number holds before a call: no place, kind or definition number of a note.
 const GUARD: u32 = 99999;

@@ -9,7 +9,7 @@ use mathlib.Core.Bool.{true, false, _||_}
 use lib.ListN.{getD}
 use lib.Dec.{eqb}
 use Rattle.scan.specs.Byte.{punctuation, escapes}
-use Rattle.target.specs.Target.{Balanced, ClosesOnlyOpened}
+use Rattle.target.specs.Target.{AllClosed, ClosesOnlyOpened}
 use Rattle.target.specs.Target as law
 
 -- Where d parentheses are open before l, e are open after it, and l closes none that is not open.
@@ -22,8 +22,8 @@ pub data Counted : ℕ → List ℕ → ℕ → Type 0 where
 
 -- l leaves n parentheses open, and closes none that it has not opened
 pub data Leaves : ℕ → List ℕ → Type 0 where
-  all-closed : {l : List ℕ} → Balanced [] l → Leaves 0 l
-  one-more : {n : ℕ} {k l : List ℕ} → Balanced (40 ∷ []) k → Leaves n l → Leaves (suc n) (k ++ 40 ∷ l)
+  all-closed : {l : List ℕ} → AllClosed [] l → Leaves 0 l
+  one-more : {n : ℕ} {k l : List ℕ} → AllClosed (40 ∷ []) k → Leaves n l → Leaves (suc n) (k ++ 40 ∷ l)
 
 -- ---- the law is counted
 -- whether b starts an escape rests on the one byte after it
@@ -32,7 +32,7 @@ next-alike b [] l after h x = rw h x
 next-alike b (c ∷ k) l after h x = x
 
 -- balanced text changes no count: l follows it, and starts as `after` does
-over-balanced : {after k : List ℕ} → Balanced after k → (l : List ℕ) {d e : ℕ} → getD l 0 0 ≡ getD after 0 0 → Counted d l e → Counted d (k ++ l) e
+over-balanced : {after k : List ℕ} → AllClosed after k → (l : List ℕ) {d e : ℕ} → getD l 0 0 ≡ getD after 0 0 → Counted d l e → Counted d (k ++ l) e
 over-balanced law.none l h c = c
 over-balanced (law.escape x t) l h c = escape x (over-balanced t l h c)
 over-balanced (law.byte {after = after} {l = k} {b = b} n x t) l h c = byte n (next-alike b k l after h x) (over-balanced t l h c)
@@ -52,11 +52,11 @@ leaves-counted (one-more {n} {k} {l} t u) d =
 -- where d parentheses are open before l: it closes none of them, or balanced text stands before the first `)` that does
 data Reads : ℕ → List ℕ → ℕ → Type 0 where
   stays : {d n e : ℕ} {l : List ℕ} → e ≡ d + n → Leaves n l → Reads d l e
-  closes : {d e : ℕ} {k l : List ℕ} → 0 < d → Balanced (41 ∷ []) k → Reads (d - 1) l e → Reads d (k ++ 41 ∷ l) e
+  closes : {d e : ℕ} {k l : List ℕ} → 0 < d → AllClosed (41 ∷ []) k → Reads (d - 1) l e → Reads d (k ++ 41 ∷ l) e
 
 -- x may stand before balanced text that starts as l does
 abbrev Grows : List ℕ → List ℕ → Type 0
-Grows x l = (after k : List ℕ) → getD (k ++ after) 0 0 ≡ getD l 0 0 → Balanced after k → Balanced after (x ++ k)
+Grows x l = (after k : List ℕ) → getD (k ++ after) 0 0 ≡ getD l 0 0 → AllClosed after k → AllClosed after (x ++ k)
 
 first-alike : (c : ℕ) (k l : List ℕ) → getD (k ++ c ∷ []) 0 0 ≡ getD (k ++ c ∷ l) 0 0
 first-alike c [] l = refl
@@ -75,8 +75,8 @@ reads-after x g (closes {d} {e} {k} {l} h t r) =
 byte-grows : (b : ℕ) (l : List ℕ) → (eqb b 40 || eqb b 41) ≡ false → escapes (b ∷ l) ≡ false → Grows (b ∷ []) l
 byte-grows b l n x after k h t = law.byte {after = after} {l = k} {b = b} n (rw h x) t
 
-group-grows : (k l : List ℕ) → Balanced (41 ∷ []) k → Grows (40 ∷ (k ++ 41 ∷ [])) l
-group-grows k l t after m h u = subst (λ (y : List ℕ). Balanced after (40 ∷ y)) (sym (append-assoc k (41 ∷ []) m)) (law.group t u)
+group-grows : (k l : List ℕ) → AllClosed (41 ∷ []) k → Grows (40 ∷ (k ++ 41 ∷ [])) l
+group-grows k l t after m h u = subst (λ (y : List ℕ). AllClosed after (40 ∷ y)) (sym (append-assoc k (41 ∷ []) m)) (law.group t u)
 
 reads-opened : {d e : ℕ} {l : List ℕ} → Reads (d + 1) l e → Reads d (40 ∷ l) e
 reads-opened {d} {e} (stays {n = n} q t) = let r : e ≡ d + suc n = omega arith in stays r (one-more law.none t)
@@ -98,12 +98,12 @@ pub leaves-iff : (n : ℕ) (l : List ℕ) → Leaves n l ↔ Counted 0 l n
 leaves-iff n l = ((λ t. subst (Counted 0 l) (omega arith) (leaves-counted t 0)), λ c. nothing-open (reads c) refl)
 
 -- ---- the two laws
-none-left : {n : ℕ} {l : List ℕ} → Leaves n l → n ≡ 0 → Balanced [] l
+none-left : {n : ℕ} {l : List ℕ} → Leaves n l → n ≡ 0 → AllClosed [] l
 none-left (all-closed t) z = t
 none-left (one-more t u) z = let no : ⊥ = omega arith in absurd no
 
 -- "all parentheses closed": none is left open
-pub balanced-iff : (l : List ℕ) → Balanced [] l ↔ Leaves 0 l
+pub balanced-iff : (l : List ℕ) → AllClosed [] l ↔ Leaves 0 l
 balanced-iff l = (all-closed, λ t. none-left t refl)
 
 leaves-some : {l : List ℕ} → ClosesOnlyOpened l → (n : ℕ) × Leaves n l

@@ -5,7 +5,7 @@ use mathlib.Core.Path.{_≡_, refl}
 use mathlib.Core.List.{[]}
 use Rattle.scan.specs.Ascii.{ascii}
 use Rattle.scan.specs.Reading.{scan, closingStep, closing}
-use Rattle.target.specs.Target.{Balanced, none, escape, byte, group, ClosesOnlyOpened, balanced, opened}
+use Rattle.target.specs.Target.{AllClosed, none, escape, byte, group, ClosesOnlyOpened, balanced, opened}
 use Rattle.target.specs.Reading.{spaceFrom, spaceRun, depthAfter, rawStep, rawRun, judged, destinationOf, closer, titleOf}
 use Rattle.target.specs.declared.Part.{Part}
 use Rattle.target.specs.declared.Part.the-variants.{Span, Nothing}
@@ -64,15 +64,15 @@ spaces = (refl, refl, refl, refl)
 
 -- ---- by construction
 -- a group in a group, and a byte after it
-nested : Balanced [] (ascii "((a)b)c")
+nested : AllClosed [] (ascii "((a)b)c")
 nested = group {k = ascii "(a)b"} {l = ascii "c"} (group {k = ascii "a"} {l = ascii "b"} (byte refl refl none) (byte refl refl none)) (byte refl refl none)
 
 -- the first `)` stands in an escape, the second closes
-escaped : Balanced [] (ascii "(a\\))")
+escaped : AllClosed [] (ascii "(a\\))")
 escaped = group {k = ascii "a\\)"} {l = []} (byte refl refl (escape refl none)) none
 
 -- a `\` at the end of the text is a byte
-slash-ends : Balanced [] (ascii "a\\")
+slash-ends : AllClosed [] (ascii "a\\")
 slash-ends = byte refl refl (byte refl refl none)
 
 -- one parenthesis left open

@@ -26,16 +26,16 @@ control b = ltb b 33 || eqb b 127
 
 -- All parentheses of l are closed, where `after` follows l. "escapes are read from its start and never overlap": a parenthesis in an escape
 -- neither opens nor closes, and a `\` before punctuation is no byte by itself, even where the punctuation is the `)` that closes the group.
-pub data Balanced : List ℕ → List ℕ → Type 0 where
-  none : {after : List ℕ} → Balanced after []
-  escape : {after l : List ℕ} {p : ℕ} → punctuation p ≡ true → Balanced after l → Balanced after (92 ∷ p ∷ l)
-  byte : {after l : List ℕ} {b : ℕ} → (eqb b 40 || eqb b 41) ≡ false → escapes (b ∷ (l ++ after)) ≡ false → Balanced after l → Balanced after (b ∷ l)
-  group : {after k l : List ℕ} → Balanced (41 ∷ []) k → Balanced after l → Balanced after (40 ∷ (k ++ 41 ∷ l))
+pub data AllClosed : List ℕ → List ℕ → Type 0 where
+  none : {after : List ℕ} → AllClosed after []
+  escape : {after l : List ℕ} {p : ℕ} → punctuation p ≡ true → AllClosed after l → AllClosed after (92 ∷ p ∷ l)
+  byte : {after l : List ℕ} {b : ℕ} → (eqb b 40 || eqb b 41) ≡ false → escapes (b ∷ (l ++ after)) ≡ false → AllClosed after l → AllClosed after (b ∷ l)
+  group : {after k l : List ℕ} → AllClosed (41 ∷ []) k → AllClosed after l → AllClosed after (40 ∷ (k ++ 41 ∷ l))
 
 -- "never closes an unescaped parenthesis it has not opened": l is balanced, but for some `(` that it leaves open
 pub data ClosesOnlyOpened : List ℕ → Type 0 where
-  balanced : {l : List ℕ} → Balanced [] l → ClosesOnlyOpened l
-  opened : {k l : List ℕ} → Balanced (40 ∷ []) k → ClosesOnlyOpened l → ClosesOnlyOpened (k ++ 40 ∷ l)
+  balanced : {l : List ℕ} → AllClosed [] l → ClosesOnlyOpened l
+  opened : {k l : List ℕ} → AllClosed (40 ∷ []) k → ClosesOnlyOpened l → ClosesOnlyOpened (k ++ 40 ∷ l)
 
 -- "characters with no byte below 33 and no 127 that never closes an unescaped parenthesis it has not opened"
 pub record Admissible (l : List ℕ) : Type 0 where
@@ -55,7 +55,7 @@ pub record Raw (s l more : List ℕ) : Type 0 where
   pub run : Longest s l more
   pub unangled : getD s 0 0 ≡ 60 → ⊥
   pub nonempty : 0 < length l
-  pub closed : Balanced [] l
+  pub closed : AllClosed [] l
 
 -- ---- between delimiters
 -- s is `opening`, l, the first unescaped `close`, and more; l has no unescaped `close`, `bar` or `other`

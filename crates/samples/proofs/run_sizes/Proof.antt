@@ -2,7 +2,7 @@
 use borrow.Author.Needs.{needs}
 use native.Mathlib.Omega.{arith}
 use lib.ListN.{length-take}
-use Rattle.samples.proofs.Header.{lendable, framed}
+use Rattle.container.proofs.HeaderLine.{lendable, framed}
 use Rattle.samples.proofs.run_sizes.Statement.{statement}
 use Rattle.samples.proofs.run_sizes.Tie as tie
 

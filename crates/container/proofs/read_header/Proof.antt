@@ -2,9 +2,9 @@
 use borrow.Author.Needs.{needs}
 use native.Mathlib.Omega.{arith}
 use denote.Ref.{now}
-use Rattle.samples.proofs.Header.{ruled-length, said, unsaid}
-use Rattle.samples.proofs.container.read_header.Statement.{statement}
-use Rattle.samples.proofs.container.read_header.Tie as tie
+use Rattle.container.proofs.HeaderLine.{ruled-length, said, unsaid}
+use Rattle.container.proofs.read_header.Statement.{statement}
+use Rattle.container.proofs.read_header.Tie as tie
 
 is-ruled-requires : tie.Need-is-ruled-requires
 is-ruled-requires c κs = search needs

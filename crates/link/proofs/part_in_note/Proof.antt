@@ -1,10 +1,10 @@
 -- An absent part starts at 0, and no other does; the sums fit, since the part's places in the note do.
-use Rattle.paragraph.proofs.LinkRows.{part-absent, part-there}
+use Rattle.link.proofs.LinkRows.{part-absent, part-there}
 use native.Mathlib.Omega.{arith}
 use mathlib.Core.Path.{_∙_}
 use borrow.Author.Needs.{needs}
-use Rattle.paragraph.proofs.link.part_in_note.Statement.{statement}
-use Rattle.paragraph.proofs.link.part_in_note.Tie as tie
+use Rattle.link.proofs.part_in_note.Statement.{statement}
+use Rattle.link.proofs.part_in_note.Tie as tie
 
 absent-requires : tie.Need-absent-requires
 absent-requires c κs = search needs

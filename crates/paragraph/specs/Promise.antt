@@ -11,7 +11,7 @@ use Rattle.row.specs.declared.Definition.{Definition}
 use Rattle.inline.specs.Tails.{Tail}
 use Rattle.inline.specs.Reading.{grammar}
 use Rattle.inline.specs.ReadingRows.{rowFor}
-use Rattle.paragraph.specs.Rows.{rowsFor, storedAll}
+use Rattle.paragraph.specs.Reading.{rowsFor, storedAll}
 use Rattle.paragraph.specs.declared.Walk.{Walk}
 use Rattle.paragraph.specs.declared.Tally.{Tally}
 use Rattle.paragraph.specs.Tally.{numberOf, tallyOf}

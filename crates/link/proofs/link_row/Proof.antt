@@ -1,11 +1,11 @@
 -- The parts of the row are those of the link; the sums fit, since they stand in the row.
-use Rattle.paragraph.proofs.LinkRows.{link-row, defined-by, inline-by, small-as, names-as}
+use Rattle.link.proofs.LinkRows.{link-row, defined-by, inline-by, small-as, names-as}
 use Prim.Native.Nat.{_+_}
 use native.Mathlib.Omega.{arith}
 use mathlib.Core.Path.{_∙_}
 use borrow.Author.Needs.{needs}
-use Rattle.paragraph.proofs.link.link_row.Statement.{statement}
-use Rattle.paragraph.proofs.link.link_row.Tie as tie
+use Rattle.link.proofs.link_row.Statement.{statement}
+use Rattle.link.proofs.link_row.Tie as tie
 
 add-new : tie.Need-add-new
 add-new c = search needs

@@ -1,8 +1,8 @@
 -- Five numbers make a header.
 use borrow.Author.Needs.{needs}
-use Rattle.samples.proofs.Header.{cased, no-note, no-label}
-use Rattle.samples.proofs.container.header_with.Statement.{statement}
-use Rattle.samples.proofs.container.header_with.Tie as tie
+use Rattle.container.proofs.HeaderLine.{cased, no-note, no-label}
+use Rattle.container.proofs.header_with.Statement.{statement}
+use Rattle.container.proofs.header_with.Tie as tie
 
 enum-known-definitions : tie.Need-enum-known-definitions
 enum-known-definitions c = search needs

@@ -3,7 +3,7 @@
 // definition table, how many to the span table, how many bytes to the page, how many bytes the note has, and how many the label.
 
 ghost use mathlib.Core.Path.{_≡_};
-ghost use Rattle.samples.specs.Container.{numberFrom, ruled, headerOf, lineOf};
+ghost use Rattle.container.specs.Container.{numberFrom, ruled, headerOf, lineOf};
 
 // The length of a header line with its line end.
 pub const HEADER: usize = 35;

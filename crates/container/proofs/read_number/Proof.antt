@@ -4,10 +4,10 @@ use mathlib.Core.Path.{_≡_}
 use Prim.Native.Nat.{_-_}
 use lib.ListN.{length, drop}
 use Rattle.scan.proofs.Scan.{stops, goes, ends}
-use Rattle.samples.specs.Container.{numberFrom}
-use Rattle.samples.proofs.Header.{below, above, full, taken}
-use Rattle.samples.proofs.container.read_number.Statement.{statement}
-use Rattle.samples.proofs.container.read_number.Tie as tie
+use Rattle.container.specs.Container.{numberFrom}
+use Rattle.container.proofs.HeaderLine.{below, above, full, taken}
+use Rattle.container.proofs.read_number.Statement.{statement}
+use Rattle.container.proofs.read_number.Tie as tie
 
 ruleset turns = (stops, goes, ends, below, above, full, taken, needs)
 

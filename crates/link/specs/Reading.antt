@@ -1,23 +1,20 @@
--- The rows of a paragraph's spans, and a table in which they are stored as far as they fit.
+-- The row of a link, and the definition that its tail names.
 use Prim.Native.Nat.{ℕ, _+_, _≤_, _<_}
-use mathlib.Core.List.{List, [], _∷_, map}
+use mathlib.Core.List.{List, []}
 use Rattle.marking.specs.Marking.{opens, closes}
-use Rattle.marking.specs.Spans as marked
-use Rattle.marking.specs.ReadingSpans.{spans}
+use Rattle.marking.specs.Spans.{linkSpan}
 use Rattle.row.specs.declared.Definition.{Definition}
 use Rattle.row.specs.Row.{wholeRows}
 use Rattle.span.specs.declared.Span.{Span}
-use Rattle.span.specs.Row.{stored}
 use Rattle.inline.specs.Tails.{Tail}
 use Rattle.inline.specs.ReadingPieces.{piece}
-use Rattle.inline.specs.Reading.{grammar}
+use Rattle.inline.specs.ReadingRows.{rowFor}
 use Rattle.tail.specs.declared.Way.{Way}
 use Rattle.tail.specs.declared.Way.the-variants.{Parts, Full, Collapsed, Shortcut}
-use Rattle.inline.specs.ReadingRows.{rowFor}
 
 -- the row of a link from its `[` at place o and its `]` at place c
 abbrev pub linkRow : ℕ → List Definition → ℕ → ℕ → Tail → Span
-linkRow offset ds o c t = rowFor offset [] ds (marked.linkSpan (piece opens o (o + 1)) (piece closes c (c + 1)) t)
+linkRow offset ds o c t = rowFor offset [] ds (linkSpan (piece opens o (o + 1)) (piece closes c (c + 1)) t)
 
 -- the definition that a tail names, if any, is one of the first `count` rows of the table
 abbrev pub InRows : ℕ → List ℕ → ℕ → Type 0
@@ -28,12 +25,3 @@ Names count t (Parts d e) = Unit {0}
 Names count t (Full k) = InRows count t k
 Names count t (Collapsed k) = InRows count t k
 Names count t (Shortcut k) = InRows count t k
-
--- of all spans that are read, in order
-abbrev pub rowsFor : ℕ → List ℕ → List (List ℕ) → List Definition → List Span
-rowsFor offset p labels ds = map (rowFor offset p ds) (spans (grammar p labels))
-
--- the table t with these rows from row k on, as far as they fit
-unfoldable pub storedAll : List ℕ → ℕ → List Span → List ℕ
-storedAll t k [] = t
-storedAll t k (x ∷ xs) = storedAll (stored t k x) (k + 1) xs

@@ -7,7 +7,7 @@ ghost use Rattle.span.specs.Row.{Small};
 ghost use Rattle.inline.specs.ReadingTails.{moved};
 ghost use Rattle.inline.specs.Rows.{fromNote?};
 ghost use Rattle.tail.specs.Ending.{shown, Sized};
-ghost use Rattle.paragraph.specs.Rows.{linkRow, Names};
+ghost use Rattle.link.specs.Reading.{linkRow, Names};
 use row::Range;
 use span::Span;
 use tail::ReadTail;

@@ -1,7 +1,7 @@
 -- Each byte that is tested is the one at its place.
 use borrow.Author.Needs.{needs}
-use Rattle.samples.proofs.container.is_ruled.Statement.{statement}
-use Rattle.samples.proofs.container.is_ruled.Tie as tie
+use Rattle.container.proofs.is_ruled.Statement.{statement}
+use Rattle.container.proofs.is_ruled.Tie as tie
 
 peek-requires : tie.Need-peek-requires
 peek-requires c κs = search needs

@@ -7,11 +7,11 @@ use lib.ListN.{length, take, drop, getD}
 use lib.Dec.{eqb, ltb}
 use Rattle.scan.specs.Byte.{within}
 use Rattle.scan.specs.Reading.{Step, stop, next, scan}
-use Rattle.samples.specs.declared.container.Number.{Number}
-use Rattle.samples.specs.declared.container.Number.the-variants as number
-use Rattle.samples.specs.declared.container.Sizes.{Sizes}
-use Rattle.samples.specs.declared.container.Header.{Header}
-use Rattle.samples.specs.declared.container.Header.the-variants as header
+use Rattle.container.specs.declared.Number.{Number}
+use Rattle.container.specs.declared.Number.the-variants as number
+use Rattle.container.specs.declared.Sizes.{Sizes}
+use Rattle.container.specs.declared.Header.{Header}
+use Rattle.container.specs.declared.Header.the-variants as header
 
 -- `0` to `9`
 abbrev pub digit : ℕ → Bool

@@ -23,7 +23,7 @@ use Rattle.tail.specs.declared.Way.{Way}
 use Rattle.tail.specs.declared.Way.the-variants.{Parts}
 use Rattle.tail.specs.declared.ReadTail.{ReadTail}
 use Rattle.tail.specs.Ending.{shownBy, shown, Sized}
-use Rattle.paragraph.specs.Rows.{linkRow, Names}
+use Rattle.link.specs.Reading.{linkRow, Names}
 
 -- ---- a part of a tail
 module _ (start at : ℕ) (r : Range) where

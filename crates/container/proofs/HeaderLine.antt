@@ -9,12 +9,12 @@ use lib.ListN.{length, take, length-take}
 use lib.Dec.{leb}
 use Rattle.scan.proofs.Test.{and-left, and-false}
 use Rattle.scan.specs.Reading.{stop, next}
-use Rattle.samples.specs.declared.container.Number.{Number}
-use Rattle.samples.specs.declared.container.Number.the-variants as number
-use Rattle.samples.specs.declared.container.Sizes.{Sizes}
-use Rattle.samples.specs.declared.container.Header.{Header}
-use Rattle.samples.specs.declared.container.Header.the-variants as header
-use Rattle.samples.specs.Container.{digit, digitStep, field, ruled, sizes, headerOf, lineOf, Lendable, Framed}
+use Rattle.container.specs.declared.Number.{Number}
+use Rattle.container.specs.declared.Number.the-variants as number
+use Rattle.container.specs.declared.Sizes.{Sizes}
+use Rattle.container.specs.declared.Header.{Header}
+use Rattle.container.specs.declared.Header.the-variants as header
+use Rattle.container.specs.Container.{digit, digitStep, field, ruled, sizes, headerOf, lineOf, Lendable, Framed}
 
 -- ---- the ways of a turn
 pub below : (n b : ℕ) (s : List ℕ) → b < 48 → digitStep n b s ≡ stop number.Bad
