@@ -37,11 +37,11 @@
  * Stack: a call takes less than 40 KiB for itself, whatever the note (36,288 bytes at most, 416 for notice_resolve). It was measured
  * on the notes of the benchmark by running each entry on a stack that was marked before; the library's tests do so again.
  *
- * Time: reading costs what the note's length costs, whatever the note: at most 150 ns a byte, 5 ms for the longest note, and the page
- * its own length besides. It was measured on an x86-64 server core at 3 GHz, with every pattern of up to four of the bytes that mean
- * something and of up to three of all ASCII punctuation, repeated to the longest note: the slowest took 93 ns a byte. One thing
- * costs more: each reference is looked up among the definitions one by one. A note of 500 definitions and of as many references to
- * them as it can hold takes 12 ms.
+ * Time: but for one thing, reading costs what the note's length costs: at most 150 ns a byte, 5 ms for the longest note, and the page
+ * its own length besides. It was measured on a virtual core of an Intel Xeon (x86-64), with every pattern of up to four of the bytes
+ * that mean something and of up to three of all ASCII punctuation, repeated to the longest note: the slowest took 93 ns a byte. What
+ * costs more: each reference is looked up among the definitions one by one. A note of 500 definitions and of as many references
+ * to them as it can hold takes 12 ms.
  *
  *
  * Answers
