@@ -37,13 +37,14 @@
  * Stack: a call takes less than 40 KiB for itself, whatever the note (36,288 bytes at most, 416 for notice_resolve). It was measured
  * on the notes of the benchmark by running each entry on a stack that was marked before; the library's tests do so again.
  *
- * Time: but for one thing, reading costs what the note's length costs: at most 150 ns a byte, 5 ms for the longest note, and the page
- * its own length besides. It was measured on a virtual core of an Intel Xeon (x86-64), with every pattern of up to four of the bytes
- * that mean something and of up to three of all ASCII punctuation, repeated to the longest note: the slowest took 93 ns a byte.
+ * Time: but for two things, reading costs what the note's length costs, and the page its own length besides. It was measured on a
+ * virtual core of an Intel Xeon (x86-64), with every pattern of up to four of the bytes that mean something and of up to three of
+ * all ASCII punctuation, repeated to the longest note: the slowest took 93 ns a byte, 3 ms. What costs more:
  *
- * The exception: each reference is looked up among the definitions one by one, so a note with many of both costs more. 500
- * definitions and as many references to them as fit took 12 ms; of notes made to be slow, some 1,200 definitions and 2,500
- * references whose labels differ only at their ends, and in the case of their letters, took 240 ms, the longest that was found.
+ * - Each reference is looked up among the definitions one by one. 500 definitions and as many references to them as fit took 12
+ *   ms; of notes made to be slow, some 1,200 definitions and 2,500 references whose labels differ only at their ends, and in the
+ *   case of their letters, took 136 to 240 ms, the longest that was found.
+ * - At each closing bracket the text of its pair is read again, up to NOTICE_DEPTH times: 63 brackets around 32,000 bytes took 8 ms.
  *
  *
  * Answers
