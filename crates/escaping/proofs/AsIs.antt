@@ -12,7 +12,7 @@ use Rattle.scan.specs.Byte.{within}
 use Rattle.scan.proofs.Test.{by, and-right, neither}
 use Rattle.scan.specs.Reading.{run, past, clear, pastStrides}
 use Rattle.scan.proofs.Scan.{run-yes, run-no, run-fits}
-use Rattle.scan.proofs.Strides.{told-apart, strides-through}
+use Rattle.scan.proofs.Strides.{told-apart, past-through}
 use Rattle.escaping.specs.Escaping.{escaped}
 use Rattle.escaping.specs.Reading.{asIs, textOf}
 use Rattle.escaping.proofs.Bytes.{plain}
@@ -86,12 +86,8 @@ module _ (mark : ℕ) where
         neither (within 34 38 b || within 60 62 b) (eqb b mark) (not-true (within 34 38 b || within 60 62 b || eqb b mark) (and-right (leb b 255) (not (within 34 38 b || within 60 62 b || eqb b mark)) e)) .1,
       )
 
-  stride-byte : (b : ℕ) (l : List ℕ) (k : ℕ) → strided b ≡ true → k + run (asIs mark) (b ∷ l) ≡ k + 1 + run (asIs mark) l
-  stride-byte b l k e = omega (arith, run-yes (asIs mark) b l (stride-as-is b e))
-
   pub as-is-strides : (s : List ℕ) (at : ℕ) {i : ℕ} → i ≡ pastStrides strided s at → past (asIs mark) s i ≡ past (asIs mark) s at
-  unfolding past
-  as-is-strides s at e = rw e (strides-through strided (λ (l : List ℕ) (k : ℕ). k + run (asIs mark) l) stride-byte s at)
+  as-is-strides = past-through strided (asIs mark) stride-as-is
 
 -- in text
 pub no-backslash : (b : ℕ) → asIs 92 b ≡ true → b ≡ 92 → ⊥

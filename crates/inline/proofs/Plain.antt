@@ -1,14 +1,13 @@
 -- Plain text, as far as it goes: the strides in it, and the turns of the loop.
 use Prim.Native.Nat.{ℕ, _+_, _<_}
-use native.Mathlib.Omega.{arith}
 use mathlib.Core.Path.{_≡_, refl, sym, ap, _∙_}
 use mathlib.Core.Bool.{Bool, true, false, true≢false, not}
-use mathlib.Core.List.{List, _∷_}
+use mathlib.Core.List.{List}
 use borrow.Author.Tests.{not-true, not-false}
 use lib.ListN.{length, getD}
-use Rattle.scan.proofs.Scan.{peek-inside, run-yes, past-on, past-stop}
-use Rattle.scan.specs.Reading.{run, past, clear, pastStrides}
-use Rattle.scan.proofs.Strides.{told-apart, strides-through}
+use Rattle.scan.proofs.Scan.{peek-inside, past-on, past-stop}
+use Rattle.scan.specs.Reading.{past, clear, pastStrides}
+use Rattle.scan.proofs.Strides.{told-apart, past-through}
 use Rattle.inline.specs.ReadingPieces.{quiet}
 
 abbrev strided : ℕ → Bool
@@ -18,12 +17,8 @@ stride-quiet : (b : ℕ) → strided b ≡ true → quiet b ≡ true
 stride-quiet b e =
     simp (told-apart strided b 96 e refl, told-apart strided b 91 e refl, told-apart strided b 93 e refl, told-apart strided b 92 e refl)
 
-stride-byte : (b : ℕ) (l : List ℕ) (k : ℕ) → strided b ≡ true → k + run quiet (b ∷ l) ≡ k + 1 + run quiet l
-stride-byte b l k e = omega (arith, run-yes quiet b l (stride-quiet b e))
-
 pub plain-strides : (s : List ℕ) (at : ℕ) {i : ℕ} → i ≡ pastStrides strided s at → past quiet s i ≡ past quiet s at
-unfolding past
-plain-strides s at e = rw e (strides-through strided (λ (l : List ℕ) (k : ℕ). k + run quiet l) stride-byte s at)
+plain-strides = past-through strided quiet stride-quiet
 
 -- ---- p is what a call answered
 module _ (s : List ℕ) (i : ℕ) {p : Bool} where

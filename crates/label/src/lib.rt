@@ -2,8 +2,10 @@
 ghost use mathlib.Core.Path.{_≡_};
 ghost use Prim.Native.Nat.{_≤_};
 ghost use lib.ListN.{drop};
-ghost use Rattle.text.specs.Sequences.{starting};
-ghost use Rattle.label.specs.Reading.{fits, labelEnd, unclosed, isLabel};
+ghost use lib.Dec.{leb};
+ghost use Rattle.text.specs.Sequences.{starting, characters};
+ghost use Rattle.label.specs.Label.{labelLimit};
+ghost use Rattle.label.specs.Reading.{inky, fits, labelEnd, unclosed, isLabel};
 use scan::Found;
 
 // The most characters that a label may have.
@@ -20,20 +22,49 @@ fn starts_character(b: u8) -> usize
     1
 }
 
+// How many characters `l` has.
+fn character_count(l: &[u8]) -> usize
+    ensures { λ r. ⌜ r ≡ characters (now (l .entry)) ⌝ }
+{
+    let mut i = 0;
+    let mut n: usize = 0;
+    while i < l.len() {
+        n += starts_character(l[i]);
+        i += 1;
+    }
+    n
+}
+
+// Whether `l` has a byte that is not blank.
+fn is_inked(l: &[u8]) -> bool
+    ensures { λ r. ⌜ r ≡ inky (now (l .entry)) ⌝ }
+{
+    let mut i = 0;
+    while i < l.len() {
+        let b = l[i];
+        if !((b == 32) | (b == 9) | (b == 10)) {
+            return true;
+        }
+        i += 1;
+    }
+    false
+}
+
+// Whether `l` has at most so many characters. They are counted only where there are more bytes than that.
+fn is_short(l: &[u8]) -> bool
+    ensures { λ r. ⌜ r ≡ leb (characters (now (l .entry))) labelLimit ⌝ }
+{
+    if l.len() <= LABEL_LIMIT {
+        return true;
+    }
+    character_count(l) <= LABEL_LIMIT
+}
+
 // Whether `l` has a byte that is not blank, and at most so many characters.
 fn label_fits(l: &[u8]) -> bool
     ensures { λ r. ⌜ r ≡ fits (now (l .entry)) ⌝ }
 {
-    let mut i = 0;
-    let mut inked = false;
-    let mut n: usize = 0;
-    while i < l.len() {
-        let b = l[i];
-        n += starts_character(b);
-        inked = inked | !((b == 32) | (b == 9) | (b == 10));
-        i += 1;
-    }
-    inked & (n <= LABEL_LIMIT)
+    is_inked(l) & is_short(l)
 }
 
 // From just after a `[`: the place of the label's `]`.
@@ -70,9 +101,13 @@ fn ends_unclosed(l: &[u8]) -> bool
     !inside
 }
 
-// Whether `l`, set between `[` and `]`, is exactly one label.
+// Whether `l`, set between `[` and `]`, is exactly one label. A text that holds a bracket is left at the first one, so that texts inside
+// each other are read once in all.
 pub fn is_label(l: &[u8]) -> bool
     ensures { λ r. ⌜ r ≡ isLabel (now (l .entry)) ⌝ }
 {
-    ends_unclosed(l) & label_fits(l)
+    if !ends_unclosed(l) {
+        return false;
+    }
+    label_fits(l)
 }

@@ -1,4 +1,5 @@
 pub mod Forms
+pub mod Blanks
 pub mod Turn
 pub mod Quick
 pub mod Equality

@@ -15,11 +15,11 @@ fn folded(b: u8) -> u8
     b
 }
 
-// The first place from `at` on where no blank stands; the end is one.
-pub fn past_blanks(s: &[u8], at: usize) -> usize
+// The first place from `at` on where no blank stands; the end is one. Long runs are passed by strides.
+fn past_run(s: &[u8], at: usize) -> usize
     ensures { λ r. ⌜ r ≡ past blank (now (s .entry)) at ⌝ }
 {
-    let mut i = at;
+    let mut i = scan::past_strides(s, at, 32, 0, 8, 11, 31, 31);
     while i < s.len() {
         let b = s[i];
         if !scan::is_blank(b) {
@@ -28,6 +28,20 @@ pub fn past_blanks(s: &[u8], at: usize) -> usize
         i += 1;
     }
     i
+}
+
+// The same. Where one blank stands alone or none, no strides are tried.
+pub fn past_blanks(s: &[u8], at: usize) -> usize
+    ensures { λ r. ⌜ r ≡ past blank (now (s .entry)) at ⌝ }
+{
+    if !scan::is_blank(scan::peek(s, at)) {
+        return at;
+    }
+    let next = at + 1;
+    if !scan::is_blank(scan::peek(s, next)) {
+        return next;
+    }
+    past_run(s, at)
 }
 
 // Whether the blanks from `i` to `p` count as a space: there are some, and not at the start.

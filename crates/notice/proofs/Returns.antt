@@ -55,6 +55,12 @@ module _ (s : List ℕ) (count : ℕ) {part : List ℕ} {r : Tally} (m : NoteMar
     back : part ++ u ≡ u
     back = no-part part u (ap length (m .table (ap tally.numberOf er) ∙ rows.filled-empty spanTable.width (λ (row : List ℕ). row) (spanRows s)))
 
+    -- no span, no row
+    pub none-there : n ≡ 0 → SpansRead s count u (Read count 0) (part ++ u)
+    none-there z =
+        let e : length (spanRows s) ≡ 0 = count-is ∙ z in
+        record { answer = rw (never, e, le-ltb (spanTable.wholeRows u) 0 (omega arith)) refl; spans = back ∙ rows.filled-still spanTable.width (λ (row : List ℕ). row) (spanRows s) u e }
+
     module _ {k : ℕ} (ek : k ≡ spanTable.wholeRows (part ++ u)) where
       rows-lent : k ≡ spanTable.wholeRows u
       rows-lent = ek ∙ ap (λ (l : List ℕ). spanTable.wholeRows l) back

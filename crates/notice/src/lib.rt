@@ -29,7 +29,7 @@ fn note_spans(
     definitions: &[u32],
     count: usize,
     spans: &mut [u32],
-    runs: &mut [usize; 256],
+    runs: &mut [u32; ticks::LENGTHS],
     marks: &mut [u8],
 ) -> Tally
     requires { ⌜ Defined (now note) (now definitions) count ⌝ }
@@ -69,7 +69,7 @@ fn read_spans(note: &[u8], definitions: &[u32], count: usize, spans: &mut [u32])
     requires { ⌜ Defined (now note) (now definitions) count ⌝ }
     ensures { λ r. ⌜ SpansRead (now (note .entry)) count (now (spans .entry)) r (now (spans .exit)) ⌝ }
 {
-    let mut runs = [0usize; 256];
+    let mut runs = [0; ticks::LENGTHS];
     let mut marks = [0u8; MARKS];
     match note_spans(
         note,
@@ -81,6 +81,10 @@ fn read_spans(note: &[u8], definitions: &[u32], count: usize, spans: &mut [u32])
     ) {
         Tally::Deep(place) => Reading::Deep(place),
         Tally::Spans(n) => {
+            // Nothing is read again where there is no row to store.
+            if n == 0 {
+                return Reading::Read(count, 0);
+            }
             if span::whole_rows(spans) < n {
                 return Reading::FewSpans(n);
             }
@@ -107,6 +111,6 @@ pub fn read(note: &[u8], definitions: &mut [u32], spans: &mut [u32]) -> Reading
     if row::whole_rows(definitions) < count {
         return Reading::FewDefinitions(count);
     }
-    table::fill_definitions(note, definitions);
+    table::store_definitions(note, count, definitions);
     read_spans(note, definitions, count, spans)
 }

@@ -88,7 +88,7 @@ fn pass_backticks(
     start: usize,
     spans: &mut [u32],
     w: Walk,
-    runs: &mut [usize; 256],
+    runs: &mut [u32; ticks::LENGTHS],
 ) -> Walk
     requires { ⌜ BacktickAt (now p) w ⌝ }
     requires { ⌜ Bounds start (now p) 0 w ⌝ }
@@ -121,7 +121,13 @@ fn pass_backticks(
 }
 
 // Past a piece that is no bracket of a pair.
-fn pass_piece(p: &[u8], start: usize, spans: &mut [u32], w: Walk, runs: &mut [usize; 256]) -> Walk
+fn pass_piece(
+    p: &[u8],
+    start: usize,
+    spans: &mut [u32],
+    w: Walk,
+    runs: &mut [u32; ticks::LENGTHS],
+) -> Walk
     requires { ⌜ w .at < length (now p) ⌝ }
     requires { ⌜ Bounds start (now p) 0 w ⌝ }
     requires { ⌜ Ready (now p) (now runs) ⌝ }
@@ -159,7 +165,7 @@ pub fn read_paragraph(
     count: usize,
     spans: &mut [u32],
     k: usize,
-    runs: &mut [usize; 256],
+    runs: &mut [u32; ticks::LENGTHS],
     marks: &mut [u8],
 ) -> Tally
     requires { ⌜ Lies (now note) start end count k ⌝ }

@@ -29,6 +29,9 @@ filled-empty = Filled.filled-empty width numbers
 pub filled-none : (t : List ℕ) → filled [] t ≡ t
 filled-none = Filled.filled-none width numbers
 
+pub filled-still : (ds : List Definition) (t : List ℕ) → length ds ≡ 0 → t ≡ filled ds t
+filled-still = Filled.filled-still width numbers
+
 pub length-filled : (ds : List Definition) (t : List ℕ) → length (filled ds t) ≡ length t
 length-filled = Filled.length-filled width numbers wide
 

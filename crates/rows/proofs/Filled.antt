@@ -30,6 +30,10 @@ module _ {A : Type 0} (width : ℕ) (numbers : A → List ℕ) where
   unfolding filled rows
   filled-none t = rw take-nil
 
+  pub filled-still : (xs : List A) (t : List ℕ) → length xs ≡ 0 → t ≡ filled width numbers xs t
+  filled-still [] t e = sym (filled-none t)
+  filled-still (x ∷ xs) t e = absurd (omega arith)
+
   pub filled-empty : (xs : List A) → filled width numbers xs [] ≡ []
   unfolding filled rows
   filled-empty xs = rw zero-div

@@ -10,7 +10,7 @@ use lib.ListN.{length, getD, drop, length-drop}
 use lib.Seq.{drop-drop}
 use lib.Dec.{eqb}
 use Rattle.scan.proofs.Test.{by, leb-same}
-use Rattle.scan.specs.Reading.{run, runs, pastStrides}
+use Rattle.scan.specs.Reading.{run, past, runs, pastStrides}
 use Rattle.scan.proofs.Scan.{run-yes, run-no, run-fits, at-cons}
 
 -- a byte that passes is none that does not
@@ -37,6 +37,15 @@ module _ (test : ℕ → Bool) where
     strides-through s at =
         let n = run test (drop at s) in
         rw (← drop-drop (n / 16 * 16) at s) (through (n / 16 * 16) (drop at s) at (div-mul-le-self n 16))
+
+  -- and so does the end of a run of bytes of which the passing ones are some
+  module _ (wide : ℕ → Bool) (among : (b : ℕ) → test b ≡ true → wide b ≡ true) where
+    wide-byte : (b : ℕ) (l : List ℕ) (k : ℕ) → test b ≡ true → k + run wide (b ∷ l) ≡ k + 1 + run wide l
+    wide-byte b l k e = omega (arith, run-yes wide b l (among b e))
+
+    pub past-through : (s : List ℕ) (at : ℕ) {i : ℕ} → i ≡ pastStrides test s at → past wide s i ≡ past wide s at
+    unfolding past
+    past-through s at e = rw e (strides-through (λ (l : List ℕ) (k : ℕ). k + run wide l) wide-byte s at)
 
   run-over : (k : ℕ) (l : List ℕ) → k ≤ run test l → run test l ≡ k + run test (drop k l)
   run-over k l h =

@@ -14,7 +14,7 @@ use Rattle.scan.proofs.Scan.{at-cons}
 use Rattle.text.specs.Utf8.{ByteRange, _‥_, table}
 use Rattle.text.specs.Sequences.{onesFrom, leadingOnes, sequenceLength}
 use Rattle.text.specs.Reading.{covers, leads, rowFor, starts, characterLength, lead, least, most, second, continuation}
-use Rattle.text.proofs.Below.{at}
+use Rattle.scan.proofs.Below.{at}
 use Rattle.text.proofs.Rows.{row-here, starts-cons, starts-found}
 
 -- ---- equal rows, as a test

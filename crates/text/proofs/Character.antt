@@ -14,7 +14,7 @@ use Rattle.scan.proofs.Test.{by, and-left, and-right}
 use Rattle.scan.proofs.Member.{in-nil, in-cons}
 use Rattle.text.specs.Utf8.{ByteRange, table, Fits, Character, GoodCharacter, Begins}
 use Rattle.text.specs.Reading.{leads, rowFor, starts, characterLength, goodLength, barred}
-use Rattle.text.proofs.Below.{every, every-at}
+use Rattle.scan.proofs.Below.{every, every-at}
 use Rattle.text.proofs.Rows.{starts-length}
 use Rattle.text.proofs.ByOnes.{ascii-length}
 use Rattle.text.proofs.Table.{table-rises, found, nonempty, listed, fits-length, fits-starts, starts-fits}

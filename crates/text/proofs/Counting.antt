@@ -12,7 +12,7 @@ use Rattle.scan.proofs.Test.{and-left, and-right}
 use Rattle.text.specs.Utf8.{ByteRange, table, Fits, Character, Run, none, more}
 use Rattle.text.specs.Sequences.{onesFrom, leadingOnes, sequenceLength, starting, characters}
 use Rattle.text.specs.Claims.{SequencesCounted}
-use Rattle.text.proofs.Below.{all, at, every, every-at}
+use Rattle.scan.proofs.Below.{all, at, every, every-at}
 use Rattle.text.proofs.Table.{fits-length}
 
 -- ---- a number of bytes that is n at each byte of a range, as a test

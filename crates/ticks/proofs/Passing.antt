@@ -17,7 +17,7 @@ use Rattle.inline.specs.Pieces.{backtick, MaximalBackticks}
 use Rattle.inline.specs.ReadingPieces.{closingRun}
 use Rattle.inline.proofs.Ticks.{tick, ticks-in, ticks-end, as-backticks, front-halts}
 use Rattle.inline.proofs.CodeSpans.{order, no-closingRun-iff}
-use Rattle.ticks.specs.LastRuns.{EndsAt, LastRuns, Ready}
+use Rattle.ticks.specs.LastRuns.{lengths, EndsAt, LastRuns, Ready}
 
 both : {A : Type 0} {b : Bool} → b ≡ true → b ≡ false → A
 both e k = absurd (true≢false (sym e ∙ k))
@@ -36,11 +36,11 @@ run-inside p b n m =
 
 pub record Seen (p : List ℕ) (i c : ℕ) (t : List ℕ) : Type 0 where
   pub low : c ≤ i
-  pub size : length t ≡ 256
+  pub size : length t ≡ lengths
   pub ticks : (k : ℕ) → i ≤ k + c → k < i → tick p k ≡ true
   pub edge : (k : ℕ) → suc k + c ≡ i → tick p k ≡ false
-  pub covers : (n b : ℕ) → n < 256 → MaximalBackticks p b n → b + n < i → b + n ≤ getD t n 0
-  pub real : (n : ℕ) → 0 < n → n < 256 → 0 < getD t n 0 → EndsAt p n (getD t n 0)
+  pub covers : (n b : ℕ) → n < lengths → MaximalBackticks p b n → b + n < i → b + n ≤ getD t n 0
+  pub real : (n : ℕ) → 0 < n → n < lengths → 0 < getD t n 0 → EndsAt p n (getD t n 0)
 
 module _ (p : List ℕ) (i c : ℕ) (t : List ℕ) (s : Seen p i c t) where
   -- over a backtick
@@ -84,13 +84,13 @@ module _ (p : List ℕ) (i c : ℕ) (t : List ℕ) (s : Seen p i c t) where
               ends = q;
             }
 
-    put-same : (n : ℕ) → n < 256 → n ≡ c → getD (set t c i) n 0 ≡ i
+    put-same : (n : ℕ) → n < lengths → n ≡ c → getD (set t c i) n 0 ≡ i
     put-same n h q = rw q (getD-set-same t c i 0 (omega (arith, s .size)))
 
     put-other : (n : ℕ) → (n ≡ c → ⊥) → getD (set t c i) n 0 ≡ getD t n 0
     put-other n q = getD-set-other t c n i 0 q
 
-    still-covers : (n b : ℕ) → n < 256 → MaximalBackticks p b n → b + n < i + 1 → b + n ≤ getD (set t c i) n 0
+    still-covers : (n b : ℕ) → n < lengths → MaximalBackticks p b n → b + n < i + 1 → b + n ≤ getD (set t c i) n 0
     still-covers n b h m l =
         order n c (λ o. other (λ q. omega arith)) (λ o. omega (arith, put-same n h o)) (λ o. other (λ q. omega arith))
       where
@@ -99,7 +99,7 @@ module _ (p : List ℕ) (i c : ℕ) (t : List ℕ) (s : Seen p i c t) where
             order (b + n) i (λ o. omega (arith, s .covers n b h m o, put-other n ne)) (λ o. absurd (ne (same-size n b m o)))
             (λ o. let no : ⊥ = omega arith in absurd no)
 
-    still-real : (n : ℕ) → 0 < n → n < 256 → 0 < getD (set t c i) n 0 → EndsAt p n (getD (set t c i) n 0)
+    still-real : (n : ℕ) → 0 < n → n < lengths → 0 < getD (set t c i) n 0 → EndsAt p n (getD (set t c i) n 0)
     still-real n g h l =
         order n c (λ o. other (λ q. omega arith)) (λ o. rw (put-same n h o, o) (run-here (omega arith))) (λ o. other (λ q. omega arith))
       where
@@ -136,15 +136,15 @@ told p t r =
     }
 
 -- ---- the ways through the loop: each premise is a fact that the code has there
-pub begins : (p : List ℕ) → Seen p 0 0 (replicate 256 0)
+pub begins : (p : List ℕ) → Seen p 0 0 (replicate lengths 0)
 begins p =
     record {
       low = omega arith;
-      size = length-replicate {A = ℕ} 256 0;
+      size = length-replicate {A = ℕ} lengths 0;
       ticks = λ k h l. let no : ⊥ = omega arith in absurd no;
       edge = λ k h. let no : ⊥ = omega arith in absurd no;
       covers = λ n b h m l. let no : ⊥ = omega arith in absurd no;
-      real = λ n g h l. let no : ⊥ = omega (arith, getD-replicate {A = ℕ} 256 n 0 0 h) in absurd no;
+      real = λ n g h l. let no : ⊥ = omega (arith, getD-replicate {A = ℕ} lengths n 0 0 h) in absurd no;
     }
 
 module _ (p : List ℕ) (i c : ℕ) (t : List ℕ) (s : Seen p i c t) where
@@ -163,12 +163,12 @@ module _ (p : List ℕ) (i c : ℕ) (t : List ℕ) (s : Seen p i c t) where
 
 -- ---- a search that the table spares
 module _ (p t : List ℕ) (r : LastRuns p t) (at n : ℕ) (some : 0 < n) (starts : tick p at ≡ false) where
-  pub none-later : n < 256 → getD t n 0 ≤ at → Nothing ≡ closingRun n (drop at p) at
+  pub none-later : n < lengths → getD t n 0 ≤ at → Nothing ≡ closingRun n (drop at p) at
   none-later h l =
       sym (no-closingRun-iff p at n some starts .1 (λ b k m. omega (arith, r .covers n b h m)))
 
   -- and where a search is made for a run that the table has a place for, it finds one
-  pub some-later : n < 256 → at < getD t n 0 → closingRun n (drop at p) at ≡ Nothing → ⊥
+  pub some-later : n < lengths → at < getD t n 0 → closingRun n (drop at p) at ≡ Nothing → ⊥
   some-later h l e =
       let x = r .real n some h (omega arith) in
       no-closingRun-iff p at n some starts .0 e (x .place)

@@ -6,8 +6,14 @@ ghost use lib.ListN.{length, getD, drop, set};
 ghost use Rattle.scan.specs.Reading.{past};
 ghost use Rattle.inline.specs.Pieces.{backtick};
 ghost use Rattle.inline.specs.ReadingPieces.{countAfter, closingRun};
-ghost use Rattle.ticks.specs.LastRuns.{LastRuns, Ready};
+ghost use Rattle.ticks.specs.LastRuns.{lengths, LastRuns, Ready};
 use scan::Found;
+
+// The table has a place for the lengths below this one. A note has room for at most 31 runs of this length or more.
+pub const LENGTHS: usize = 1024;
+
+// A text shorter than this is searched sooner than the table is cleared.
+const SHORT: usize = 32;
 
 // The first place from `at` on where no backtick stands; the end is one.
 pub fn backticks_end(s: &[u8], at: usize) -> usize
@@ -35,7 +41,7 @@ fn count_after(count: usize, b: u8) -> usize
 }
 
 // Where the first maximal run of exactly `n` backticks ends, from `at` on, which is not inside a run.
-pub fn closing_run(s: &[u8], at: usize, n: usize) -> Found
+fn closing_run(s: &[u8], at: usize, n: usize) -> Found
     ensures { λ r. ⌜ r ≡ closingRun n (drop at (now (s .entry))) at ⌝ }
 {
     let mut i = at;
@@ -54,22 +60,32 @@ pub fn closing_run(s: &[u8], at: usize, n: usize) -> Found
     Found::Nothing
 }
 
+// A number of the table as a place.
+fn as_place(e: u32) -> usize
+    ensures { λ r. ⌜ r ≡ e ⌝ }
+{
+    e as usize
+}
+
 // The table with `e` for runs of `n`, where it has a place for them.
-fn put(table: &mut [usize; 256], n: usize, e: usize)
-    requires { ⌜ length (now table) ≡ 256 ⌝ }
+fn put(table: &mut [u32; LENGTHS], n: usize, e: usize)
+    requires { ⌜ length (now table) ≡ lengths ⌝ }
+    requires { ⌜ e < 2 ^ 32 ⌝ }
     ensures { λ _. ⌜ now (table .exit) ≡ set (now (table .entry)) n e ⌝ }
 {
-    if n < 256 {
-        table[n] = e;
+    if n < LENGTHS {
+        table[n] = e as u32;
     }
 }
 
-// For each n from 1 to 255 the end of the last maximal run of exactly n backticks in `p`, and 0 where there is none.
-pub fn last_runs(p: &[u8], table: &mut [usize; 256])
+// For each length that the table has a place for the end of the last maximal run of exactly so many backticks in `p`,
+// and 0 where there is none.
+fn last_runs(p: &[u8], table: &mut [u32; LENGTHS])
+    requires { ⌜ length (now p) < 2 ^ 32 ⌝ }
     ensures { λ _. ⌜ LastRuns (now (p .entry)) (now (table .exit)) ⌝ }
     ensures { λ _. ⌜ 0 < getD (now (table .exit)) 0 0 ⌝ }
 {
-    *table = [0; 256];
+    *table = [0; LENGTHS];
     let mut i = 0;
     let mut count: usize = 0;
     while i < p.len() {
@@ -87,28 +103,33 @@ pub fn last_runs(p: &[u8], table: &mut [usize; 256])
 }
 
 // Where the first maximal run of exactly `n` backticks ends, from `at` on, which is not inside a run.
-pub fn closing_run_quick(p: &[u8], at: usize, n: usize, table: &[usize; 256]) -> Found
+fn closing_run_quick(p: &[u8], at: usize, n: usize, table: &[u32; LENGTHS]) -> Found
     requires { ⌜ 0 < n ⌝ }
     requires { ⌜ backtick (getD (now p) at 0) ≡ false ⌝ }
     requires { ⌜ LastRuns (now p) (now table) ⌝ }
     ensures { λ r. ⌜ r ≡ closingRun n (drop at (now (p .entry))) at ⌝ }
 {
-    if n < 256 {
-        if table[n] <= at {
+    if n < LENGTHS {
+        if as_place(table[n]) <= at {
             return Found::Nothing;
         }
     }
     closing_run(p, at, n)
 }
 
-// The same with a table that is made once a search has found nothing. Where every run is closed it is never made.
-pub fn closing_run_lazy(p: &[u8], at: usize, n: usize, table: &mut [usize; 256]) -> Found
+// The same with a table that is made once a search has found nothing. Where every run is closed it is never made, and for a short text
+// neither.
+pub fn closing_run_lazy(p: &[u8], at: usize, n: usize, table: &mut [u32; LENGTHS]) -> Found
     requires { ⌜ 0 < n ⌝ }
     requires { ⌜ backtick (getD (now p) at 0) ≡ false ⌝ }
+    requires { ⌜ length (now p) < 2 ^ 32 ⌝ }
     requires { ⌜ Ready (now p) (now table) ⌝ }
     ensures { λ r. ⌜ r ≡ closingRun n (drop at (now (p .entry))) at ⌝ }
     ensures { λ r. ⌜ Ready (now (p .entry)) (now (table .exit)) ⌝ }
 {
+    if p.len() < SHORT {
+        return closing_run(p, at, n);
+    }
     if 0 < table[0] {
         return closing_run_quick(p, at, n, table);
     }

@@ -1,58 +1,52 @@
--- The place past the blanks is the same from every place passed.
+-- A run of no blank and of one are told by two bytes.
+use native.Mathlib.Omega.{arith}
 use borrow.Author.Needs.{needs}
-use borrow.Author.Tests.{not-true, not-false}
-use mathlib.Core.Path.{_≡_}
-use Prim.Native.Nat.{_-_}
-use lib.ListN.{length}
-use Rattle.scan.specs.Byte.{blank}
-use Rattle.scan.specs.Reading.{past}
-use Rattle.scan.proofs.Scan.{past-on, past-stop, past-end}
+use Rattle.matching.proofs.Blanks.{no-blank, blank-inside, one-blank}
 use Rattle.matching.proofs.past_blanks.Statement.{statement}
 use Rattle.matching.proofs.past_blanks.Tie as tie
 
-ruleset turns = (past-on, past-stop, past-end, not-true, not-false, needs)
+peek-requires : tie.Need-peek-requires
+peek-requires c κs = search needs
 
-abbrev Inv-loop : tie.InvT-loop
-Inv-loop s at i₀ i = past blank s i ≡ past blank s at
+is-blank-requires : tie.Need-is-blank-requires
+is-blank-requires c κs = search needs
 
-abbrev μ-loop : tie.MeasureT-loop
-μ-loop s at i₀ i = length s - i
+returns : tie.Need-returns
+returns c = search (no-blank, needs)
 
-loop-holds : tie.Need-loop-holds Inv-loop μ-loop
-loop-holds c = search turns
+add-next : tie.Need-add-next
+add-next c =
+    let b = c .before .before in
+    omega (arith, blank-inside (b .before .before .args .s .now) (b .before .before .args .at) (b .peek .ensures) (c .before .is-blank .ensures) (c .if1 .left))
 
-shared-slice-read-b : tie.Need-shared-slice-read-b Inv-loop μ-loop
-shared-slice-read-b c = search turns
+peek-requires-2 : tie.Need-peek-requires-2
+peek-requires-2 c κs = search needs
 
-is-blank-requires : tie.Need-is-blank-requires Inv-loop μ-loop
-is-blank-requires c κs = search turns
+is-blank-requires-2 : tie.Need-is-blank-requires-2
+is-blank-requires-2 c κs = search needs
 
-returns : tie.Need-returns Inv-loop μ-loop
-returns c = search turns
+returns-2 : tie.Need-returns-2
+returns-2 c =
+    let b = c .before .before .before .before in
+    let a = b .before .before .before .args in
+    one-blank (a .s .now) (a .at) (b .before .peek .ensures) (b .is-blank .ensures) (c .before .before .before .if1 .left) (c .before .before .peek2 .ensures) (c .before .is-blank2 .ensures) (c .if2 .taken)
 
-add-i : tie.Need-add-i Inv-loop μ-loop
-add-i c = search turns
+past-run-requires : tie.Need-past-run-requires
+past-run-requires c κs = search needs
 
-loop-less : tie.Need-loop-less Inv-loop μ-loop
-loop-less c = search turns
-
-loop-again : tie.Need-loop-again Inv-loop μ-loop
-loop-again c = search turns
-
-returns-2 : tie.Need-returns-2 Inv-loop μ-loop
-returns-2 c = search turns
+returns-3 : tie.Need-returns-3
+returns-3 c = search needs
 
 pub past-blanks-spec : {M : Type 1} → statement M
 past-blanks-spec =
     tie.close
     (tie.spec
-    Inv-loop
-    μ-loop
-    loop-holds
-    shared-slice-read-b
+    peek-requires
     is-blank-requires
     returns
-    add-i
-    loop-less
-    loop-again
-    returns-2)
+    add-next
+    peek-requires-2
+    is-blank-requires-2
+    returns-2
+    past-run-requires
+    returns-3)

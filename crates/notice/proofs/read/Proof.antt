@@ -42,8 +42,8 @@ same-length c = search needs
 returns-3 : tie.Need-returns-3
 returns-3 c = search returning
 
-fill-definitions-requires-2 : tie.Need-fill-definitions-requires-2
-fill-definitions-requires-2 c κs = search returning
+store-definitions-requires : tie.Need-store-definitions-requires
+store-definitions-requires c κs = search returning
 
 read-spans-requires : tie.Need-read-spans-requires
 read-spans-requires c κs =
@@ -54,7 +54,7 @@ read-spans-requires c κs =
     let start = checked .before .before .before .before in
     defined _ (start .args .definitions .now) (start .args .spans .now) (checked .check .ensures .answer) (counted .before .before .enum-told .given .1)
     (counted .fill-definitions .ensures .1) (counted .fill-definitions .ensures .0) (compared .before .whole-rows .ensures) (compared .if1 .left)
-    (stored .fill-definitions2 .ensures .1)
+    (stored .store-definitions .ensures)
 
 same-length-2 : tie.Need-same-length-2
 same-length-2 c = search needs
@@ -81,7 +81,7 @@ read-spec =
     whole-rows-requires
     same-length
     returns-3
-    fill-definitions-requires-2
+    store-definitions-requires
     read-spans-requires
     same-length-2
     same-length-3

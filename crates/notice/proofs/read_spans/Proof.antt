@@ -3,11 +3,11 @@ use borrow.Author.Needs.{needs}
 use Prim.Native.Nat.{ℕ}
 use native.Mathlib.Omega.{arith}
 use lib.ListN.{length-replicate}
-use Rattle.notice.proofs.Returns.{too-many-open, too-few-rows, all-stored}
+use Rattle.notice.proofs.Returns.{too-many-open, none-there, too-few-rows, all-stored}
 use Rattle.notice.proofs.read_spans.Statement.{statement}
 use Rattle.notice.proofs.read_spans.Tie as tie
 
-ruleset returning = (too-many-open, too-few-rows, all-stored, needs)
+ruleset returning = (too-many-open, none-there, too-few-rows, all-stored, needs)
 
 slice-relend-prefix-note-spans : tie.Need-slice-relend-prefix-note-spans
 slice-relend-prefix-note-spans c = search needs
@@ -27,20 +27,17 @@ enum-known-place c = search needs
 enum-known-n : tie.Need-enum-known-n
 enum-known-n c = search needs
 
-whole-rows-requires : tie.Need-whole-rows-requires
-whole-rows-requires c κs = search needs
-
 same-length : tie.Need-same-length
 same-length c = search needs
 
 returns : tie.Need-returns
-returns c = search returning
+returns c =
+    let counted = c .before .before .before .before .before .before .before in
+    let a = counted .before .before .before .before .before .before .before .args in
+    none-there (a .note .now) (a .count) (counted .note-spans .ensures) (a .spans .now) (c .before .before .n .given .1) (c .if1 .taken)
 
-slice-aggregate-note-spans-3 : tie.Need-slice-aggregate-note-spans-3
-slice-aggregate-note-spans-3 c = search needs
-
-note-spans-requires-2 : tie.Need-note-spans-requires-2
-note-spans-requires-2 c κs = (c .before .before .before .before .before .before .before .before .before .before .before .before .before .before .before .before .before .before .before .pre, omega (arith, c .before .before .before .before .before .before .before .before .before .before .before .before .note-spans .kept .1 .1 .1 .1 .1 .0, c .before .before .before .before .before .before .before .before .before .before .before .before .before .before .before .before .before .before .before .pre .short, length-replicate {A = ℕ} 32769 0))
+whole-rows-requires : tie.Need-whole-rows-requires
+whole-rows-requires c κs = search needs
 
 same-length-2 : tie.Need-same-length-2
 same-length-2 c = search needs
@@ -48,11 +45,26 @@ same-length-2 c = search needs
 returns-2 : tie.Need-returns-2
 returns-2 c = search returning
 
+slice-aggregate-note-spans-3 : tie.Need-slice-aggregate-note-spans-3
+slice-aggregate-note-spans-3 c = search needs
+
+note-spans-requires-2 : tie.Need-note-spans-requires-2
+note-spans-requires-2 c κs =
+    let counted = c .before .before .before .before .before .before .before .before .before .before .before .before .before in
+    let b = counted .before .before .before .before .before .before .before .pre in
+    (b, omega (arith, counted .note-spans .kept .1 .1 .1 .1 .1 .0, b .short, length-replicate {A = ℕ} 32769 0))
+
 same-length-3 : tie.Need-same-length-3
 same-length-3 c = search needs
 
 returns-3 : tie.Need-returns-3
 returns-3 c = search returning
+
+same-length-4 : tie.Need-same-length-4
+same-length-4 c = search needs
+
+returns-4 : tie.Need-returns-4
+returns-4 c = search returning
 
 pub read-spans-spec : {M : Type 1} → statement M
 read-spans-spec =
@@ -64,12 +76,14 @@ read-spans-spec =
     note-spans-requires
     enum-known-place
     enum-known-n
-    whole-rows-requires
     same-length
     returns
-    slice-aggregate-note-spans-3
-    note-spans-requires-2
+    whole-rows-requires
     same-length-2
     returns-2
+    slice-aggregate-note-spans-3
+    note-spans-requires-2
     same-length-3
-    returns-3)
+    returns-3
+    same-length-4
+    returns-4)

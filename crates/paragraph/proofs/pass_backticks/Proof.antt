@@ -14,7 +14,7 @@ sub-n : tie.Need-sub-n
 sub-n c = first-after (c .before .before .before .args .p .now) (c .before .before .before .args .w) (c .before .before .before .pre .0) (c .backticks-end .result) (c .backticks-end .ensures)
 
 closing-run-lazy-requires : tie.Need-closing-run-lazy-requires
-closing-run-lazy-requires c κs = (first-some (c .before .before .before .before .args .p .now) (c .before .before .before .before .args .w) (c .before .before .before .before .pre .0) (c .before .backticks-end .result) (c .before .backticks-end .ensures), (first-halts (c .before .before .before .before .args .p .now) (c .before .before .before .before .args .w) (c .before .before .before .before .pre .0) (c .before .backticks-end .result) (c .before .backticks-end .ensures), c .before .before .before .before .pre .1 .1))
+closing-run-lazy-requires c κs = (first-some (c .before .before .before .before .args .p .now) (c .before .before .before .before .args .w) (c .before .before .before .before .pre .0) (c .before .backticks-end .result) (c .before .backticks-end .ensures), (first-halts (c .before .before .before .before .args .p .now) (c .before .before .before .before .args .w) (c .before .before .before .before .pre .0) (c .before .backticks-end .result) (c .before .backticks-end .ensures), (omega (arith, c .before .before .before .before .pre .1 .0 .places), c .before .before .before .before .pre .1 .1)))
 
 enum-known-e : tie.Need-enum-known-e
 enum-known-e c = search needs

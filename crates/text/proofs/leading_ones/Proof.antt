@@ -7,7 +7,7 @@ use Prim.Native.Nat.{ℕ, _-_}
 use lib.Dec.{eqb}
 use lib.Count.{leadingZeros}
 use Rattle.text.specs.Sequences.{onesFrom, leadingOnes}
-use Rattle.text.proofs.Below.{at}
+use Rattle.scan.proofs.Below.{at}
 use Rattle.text.proofs.leading_ones.Statement.{statement}
 use Rattle.text.proofs.leading_ones.Tie as tie
 
