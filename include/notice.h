@@ -34,17 +34,17 @@
  *
  * Cost
  *
- * Stack: a call takes less than 40 KiB for itself, whatever the note (36,288 bytes at most, 416 for notice_resolve). It was measured
+ * Stack: a call takes less than 40 KiB for itself, whatever the note (38,320 bytes at most, 416 for notice_resolve). It was measured
  * on the notes of the benchmark by running each entry on a stack that was marked before; the library's tests do so again.
  *
- * Time: but for two things, reading costs what the note's length costs, and the page its own length besides. It was measured on a
- * virtual core of an Intel Xeon (x86-64), with every pattern of up to four of the bytes that mean something and of up to three of
- * all ASCII punctuation, repeated to the longest note: the slowest took 93 ns a byte, 3 ms. What costs more:
+ * Time: but for one thing, reading costs what the note's length costs, and the page its own length besides. It was measured on a
+ * virtual core of an AMD EPYC (x86-64), with 222,913 notes of the longest size, made of short words to be slow: repeated, one after
+ * the other, around a text as deep as brackets may go, and in rising runs. The slowest took 45 ns a byte, 1.5 ms, and the slowest
+ * enquiry, for a label of 990 blanks, 40 ns a byte of the note.
  *
- * - Each reference is looked up among the definitions one by one. 500 definitions and as many references to them as fit took 12
- *   ms; of notes made to be slow, some 1,200 definitions and 2,500 references whose labels differ only at their ends, and in the
- *   case of their letters, took 136 to 240 ms, the longest that was found.
- * - At each closing bracket the text of its pair is read again, up to NOTICE_DEPTH times: 63 brackets around 32,000 bytes took 8 ms.
+ * What costs more is lookup, since each reference is looked up among the definitions one by one. 500 definitions and as many references
+ * to them as fit took 8 ms; of notes made to be slow, some 1,600 definitions and 1,500 references whose labels differ only at their
+ * ends, and in the case of their letters, took 66 ms there and up to 240 ms on a slower machine, the longest that was found.
  *
  *
  * Answers

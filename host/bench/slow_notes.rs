@@ -1,10 +1,12 @@
-//! Looks for slow notes: every short pattern, repeated to the longest note, through the proved reader
-//! and page writer. Prints the ten slowest and fails where one takes longer than a note may.
-//! `docs/BENCHMARK.md` says what is measured.
+//! Looks for slow notes: short words, put together in a few ways up to the longest note, through the
+//! proved reader and page writer, and labels that are hard to compare through the enquiry. Prints the
+//! slowest and fails where one takes longer than a note may. `docs/BENCHMARK.md` says what is measured.
 //!
 //! `cargo run --release --offline --manifest-path host/Cargo.toml --bin slow_notes [SECONDS]`
 
+mod enquiries;
 mod patterns;
+mod shapes;
 mod slowest;
 
 use std::process::ExitCode;
@@ -13,20 +15,26 @@ use std::time::{Duration, Instant};
 use host::entries;
 use host::second::{DEFINITION_ROW_WIDTH, LONGEST_NOTE, SPAN_ROW_WIDTH};
 use patterns::Patterns;
+use shapes::{around, halves, repeated, rising, Shape};
 use slowest::{Slow, Slowest};
 
 /// What a note may take at most, in nanoseconds a byte: 5 ms for the longest one.
 const MOST: f64 = 150.0;
-/// A pattern that takes longer than this is timed again, and its best time counts.
+/// A note that takes longer than this is timed again, and its best time counts.
 const SUSPECT: f64 = 50.0;
 const MORE_TRIES: usize = 4;
 /// How long the search may take by itself.
-const SECONDS: u64 = 900;
+const SECONDS: u64 = 1800;
 
 /// The bytes that mean something in a paragraph or a definition, and a letter.
 const MARKS: &[u8] = b"[]()<\"\\` a\n:";
 /// All ASCII punctuation, two letters, and the blanks.
 const ALL: &[u8] = b"!\"#$%&'()*+,-./:;<=>?@[\\]^_`{|}~ab \t\n";
+/// What stands between the two ends of a note, and how much of it.
+const MIDDLES: [&[u8]; 3] = [b"a", b"\\!", b"`a"];
+const AMOUNTS: [usize; 2] = [400, LONGEST_NOTE];
+/// The first lengths of rising runs.
+const LEASTS: [usize; 3] = [1, 256, 1024];
 
 fn main() -> ExitCode {
     let seconds = std::env::args()
@@ -39,25 +47,52 @@ fn main() -> ExitCode {
     let end = Instant::now() + Duration::from_secs(seconds);
     let mut lent = Lent::for_any_note();
     let mut slowest = Slowest::default();
-    let marks = Patterns::new(MARKS, 4);
-    let all =
-        Patterns::new(ALL, 3).filter(|pattern| !pattern.iter().all(|byte| MARKS.contains(byte)));
     let mut tried = 0;
-    for pattern in marks.chain(all) {
+    for shape in patterns().chain(in_two_words()).chain(rising_runs()) {
         if Instant::now() > end {
-            println!("{tried} patterns in {seconds} seconds: not all");
+            println!("{tried} notes in {seconds} seconds: not all");
             return ExitCode::FAILURE;
         }
-        slowest.note(lent.time(&pattern));
+        slowest.note(lent.time(shape));
         tried += 1;
     }
-    println!("All {tried} patterns. The ten slowest, in nanoseconds a byte:\n");
+    println!("All {tried} notes. The ten slowest, in nanoseconds a byte:\n");
     slowest.print();
-    if slowest.worst() > MOST {
+    let (enquiry, asked) = enquiries::slowest();
+    println!("\nAll {asked} enquiries. The slowest: {enquiry:.1}");
+    if slowest.worst().max(enquiry) > MOST {
         println!("\nOver {MOST}: too slow.");
         return ExitCode::FAILURE;
     }
     ExitCode::SUCCESS
+}
+
+/// Every short pattern, over and over.
+fn patterns() -> impl Iterator<Item = Shape> {
+    let all =
+        Patterns::new(ALL, 3).filter(|pattern| !pattern.iter().all(|byte| MARKS.contains(byte)));
+    let patterns = Patterns::new(MARKS, 4).chain(all);
+    patterns.map(|pattern| repeated(&pattern))
+}
+
+/// Two words of up to two bytes: one after the other, and around a text.
+fn in_two_words() -> impl Iterator<Item = Shape> {
+    let words = || Patterns::new(MARKS, 2);
+    let pairs = words().flat_map(move |first| words().map(move |second| (first.clone(), second)));
+    pairs.flat_map(|(first, second)| {
+        let mut shapes = vec![halves(&first, &second)];
+        for middle in MIDDLES {
+            shapes.extend(AMOUNTS.map(|bytes| around(&first, middle, bytes, &second)));
+        }
+        shapes
+    })
+}
+
+/// Runs of each byte, with a word of up to two bytes between them.
+fn rising_runs() -> impl Iterator<Item = Shape> {
+    MARKS.iter().flat_map(|byte| {
+        Patterns::new(MARKS, 2).flat_map(|word| LEASTS.map(|least| rising(*byte, least, &word)))
+    })
 }
 
 /// Tables for any note, and no page: the page writer measures the page, which costs the note and not
@@ -77,19 +112,18 @@ impl Lent {
         }
     }
 
-    /// The best times for the longest note of this pattern.
-    fn time(&mut self, pattern: &[u8]) -> Slow {
-        let note = pattern.repeat(LONGEST_NOTE / pattern.len());
-        let mut best = self.once(&note);
+    /// The best times for a note.
+    fn time(&mut self, shape: Shape) -> Slow {
+        let mut best = self.once(&shape.note);
         for _ in 0..MORE_TRIES {
             if best.0.max(best.1) < SUSPECT {
                 break;
             }
-            let again = self.once(&note);
+            let again = self.once(&shape.note);
             best = (best.0.min(again.0), best.1.min(again.1));
         }
         Slow {
-            pattern: pattern.to_vec(),
+            name: shape.name,
             reader: best.0,
             page_writer: best.1,
         }

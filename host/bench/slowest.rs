@@ -1,8 +1,8 @@
-//! The slowest patterns so far.
+//! The slowest notes so far.
 
-/// A pattern with its times, in nanoseconds a byte.
+/// How a note is made, and its times, in nanoseconds a byte.
 pub struct Slow {
-    pub pattern: Vec<u8>,
+    pub name: String,
     pub reader: f64,
     pub page_writer: f64,
 }
@@ -35,13 +35,12 @@ impl Slowest {
     }
 
     pub fn print(&self) {
-        println!("| pattern | reader | page writer |");
+        println!("| note | reader | page writer |");
         println!("|---|--:|--:|");
         for slow in &self.list {
-            let pattern = slow.pattern.escape_ascii();
             println!(
-                "| `{pattern}` | {:.1} | {:.1} |",
-                slow.reader, slow.page_writer
+                "| {} | {:.1} | {:.1} |",
+                slow.name, slow.reader, slow.page_writer
             );
         }
     }

@@ -51,6 +51,7 @@ pub fn of_size(most: usize) -> Vec<BenchNote> {
         ),
         ("empty_tails", repeated("[](")),
         ("bracket_words", repeated("[a] ")),
+        ("deep_text", deep_text(most)),
     ];
     notes
         .into_iter()
@@ -137,6 +138,11 @@ fn prose(chance: &mut Chance, most: usize) -> String {
 fn nested(times: usize) -> String {
     let deep = "[".repeat(60) + "a" + &"]".repeat(60) + " ";
     deep.repeat(times)
+}
+
+/// A long text between brackets 60 deep.
+fn deep_text(most: usize) -> String {
+    "[".repeat(60) + &"a".repeat(most - 120) + &"]".repeat(60)
 }
 
 /// Short definitions and nothing else.

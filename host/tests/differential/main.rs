@@ -16,4 +16,5 @@ mod named;
 mod random;
 mod raw;
 mod shrink;
+mod stretches;
 mod trial;

@@ -9,7 +9,7 @@ use host::second::{DEFINITION_ROW_WIDTH, LONGEST_NOTE, SPAN_ROW_WIDTH};
 use host::sources::{examples, Example};
 
 /// What was compared, or a failure with the note's first bytes.
-fn must<T>(note: &[u8], compared: Result<T, String>) -> T {
+pub fn must<T>(note: &[u8], compared: Result<T, String>) -> T {
     let start = &note[..note.len().min(400)];
     compared.unwrap_or_else(|what| {
         let length = note.len();
@@ -142,7 +142,7 @@ fn cases_of_the_samples() {
 }
 
 /// A note through all three entries with part of a row more than it needs.
-fn compare_long(note: &[u8]) -> Need {
+pub fn compare_long(note: &[u8]) -> Need {
     let need = Need::of(note);
     let exactly = need.exactly();
     let more = Lending {

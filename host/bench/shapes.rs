@@ -1,0 +1,69 @@
+//! The notes that are tried: words, put together in a few ways up to the longest note.
+
+use host::second::{LONGEST_NOTE, MOST_BRACKETS_OPEN};
+
+/// A note, and how it is made.
+pub struct Shape {
+    pub name: String,
+    pub note: Vec<u8>,
+}
+
+/// A word over and over.
+pub fn repeated(word: &[u8]) -> Shape {
+    Shape {
+        name: show(word),
+        note: word.repeat(LONGEST_NOTE / word.len()),
+    }
+}
+
+/// A word as often as brackets may be open, a second one over so many bytes, a third one as often as the
+/// first; and all of it over and over.
+pub fn around(open: &[u8], middle: &[u8], bytes: usize, close: &[u8]) -> Shape {
+    let deep = MOST_BRACKETS_OPEN - 1;
+    let room = LONGEST_NOTE - deep * (open.len() + close.len());
+    let unit = [
+        open.repeat(deep),
+        middle.repeat(bytes.min(room) / middle.len()),
+        close.repeat(deep),
+    ]
+    .concat();
+    Shape {
+        name: format!(
+            "{} around {bytes} of {}, {}",
+            show(open),
+            show(middle),
+            show(close)
+        ),
+        note: unit.repeat(LONGEST_NOTE / unit.len()),
+    }
+}
+
+/// Two words, each over half of the note.
+pub fn halves(first: &[u8], second: &[u8]) -> Shape {
+    let half = |word: &[u8]| word.repeat(LONGEST_NOTE / 2 / word.len());
+    Shape {
+        name: format!("{}, then {}", show(first), show(second)),
+        note: [half(first), half(second)].concat(),
+    }
+}
+
+/// A byte so many times, then once more than that, and so on, with a word after each run.
+pub fn rising(byte: u8, least: usize, word: &[u8]) -> Shape {
+    let mut note = Vec::with_capacity(LONGEST_NOTE);
+    for count in least.. {
+        if note.len() + count + word.len() > LONGEST_NOTE {
+            break;
+        }
+        note.resize(note.len() + count, byte);
+        note.extend_from_slice(word);
+    }
+    Shape {
+        name: format!("{} rising from {least}, with {}", show(&[byte]), show(word)),
+        note,
+    }
+}
+
+/// A word as the table shows it.
+fn show(word: &[u8]) -> String {
+    format!("`{}`", word.escape_ascii())
+}

@@ -1,0 +1,70 @@
+//! Long runs of backticks and of blanks, at the lengths where the library goes another way.
+
+use crate::compare;
+use crate::named::{compare_long, must};
+
+/// So many backticks.
+fn ticks(count: usize) -> String {
+    "`".repeat(count)
+}
+
+#[test]
+fn runs_of_backticks() {
+    for n in [
+        1, 2, 15, 31, 32, 33, 255, 256, 1_022, 1_023, 1_024, 1_025, 4_096,
+    ] {
+        let run = ticks(n);
+        let longer = ticks(n + 1);
+        let notes = [
+            format!("{run}a{run}"),
+            format!("{run}a{longer}"),
+            // A run that nothing closes, before runs that close each other.
+            format!("{longer}a{run}b{run}c{run}"),
+            format!("{run}a{longer}b{longer}c{longer}{longer}"),
+            // After an escape a run is shorter than the maximal one.
+            format!("\\{longer}a{run}"),
+            format!("\\{longer}a\\{longer}b{run}c\\{longer}"),
+            format!("{longer}\n\n{run}a{run}\n\n{longer}b\\{run}c{longer}"),
+        ];
+        for note in notes {
+            compare_long(note.as_bytes());
+        }
+    }
+}
+
+#[test]
+fn runs_of_backticks_in_short_paragraphs() {
+    for size in 20..45 {
+        for piece in ["`", "``\\", "`a``", "\\``", "``a`", "[`](b)", "```a``b`"] {
+            let mut note = piece.repeat(size / piece.len());
+            note += &"x".repeat(size - note.len());
+            compare_long(format!("{note}\n\n{note}`\n\n`{note}").as_bytes());
+        }
+    }
+}
+
+#[test]
+fn blanks_in_labels() {
+    for count in 0..70 {
+        let spaces = " ".repeat(count);
+        let mixed: String = " \t \t\t".chars().cycle().take(count).collect();
+        for inner in [&spaces, &mixed] {
+            let note = format!(
+                "[{inner}A{inner}b{inner}]: /u\n\n[a b] [ab] [a{inner}B] [{inner} a\tb{inner}]\n"
+            );
+            compare_long(note.as_bytes());
+            for label in [
+                format!("{inner}a b"),
+                format!("a{inner}b"),
+                format!("a\n{inner}\nb\n{inner}"),
+                format!("a{inner}\u{b}{inner}b"),
+                format!("{inner}\u{c}a b"),
+            ] {
+                must(
+                    note.as_bytes(),
+                    compare::resolve(note.as_bytes(), label.as_bytes()),
+                );
+            }
+        }
+    }
+}
