@@ -34,13 +34,14 @@
  *
  * Cost
  *
- * Stack: a call takes less than 40 KiB for itself, whatever the note (38,320 bytes at most, 416 for notice_resolve). It was measured
+ * Stack: a call takes less than 40 KiB for itself, whatever the note (38,304 bytes at most, 416 for notice_resolve). It was measured
  * on the notes of the benchmark by running each entry on a stack that was marked before; the library's tests do so again.
  *
  * Time: but for one thing, reading costs what the note's length costs, and the page its own length besides. It was measured on a
  * virtual core of an AMD EPYC (x86-64), with 222,913 notes of the longest size, made of short words to be slow: repeated, one after
- * the other, around a text as deep as brackets may go, and in rising runs. The slowest took 45 ns a byte, 1.5 ms, and the slowest
- * enquiry, for a label of 990 blanks, 40 ns a byte of the note.
+ * the other, around a text as deep as brackets may go, and in rising runs. The slowest took 51 ns a byte, 1.7 ms, and the slowest
+ * enquiry, for a label of 990 blanks, 37 ns a byte of the note. The search counts 150 ns a byte, 5 ms for the longest note, as the
+ * most that a call may take.
  *
  * What costs more is lookup, since each reference is looked up among the definitions one by one. 500 definitions and as many references
  * to them as fit took 8 ms; of notes made to be slow, some 1,600 definitions and 1,500 references whose labels differ only at their

@@ -5,7 +5,7 @@ use std::time::Instant;
 use host::entries;
 use host::second::LONGEST_NOTE;
 
-use crate::patterns::Patterns;
+use crate::patterns::{self, Patterns};
 
 /// What the labels of the definitions and the ends of the one that is asked for are made of.
 const LABELS: &[u8] = b"aB \t";
@@ -14,17 +14,18 @@ const BLANKS: &[u8] = b" \t\n";
 const COUNT: usize = 990;
 const TRIES: usize = 3;
 
-/// The time of the slowest, in nanoseconds a byte of the note, and how many were tried.
-pub fn slowest() -> (f64, usize) {
-    let words = || Patterns::new(LABELS, 2);
+/// The time of the slowest, in nanoseconds a byte of the note, and how many were tried; nothing where time
+/// ran out before all were.
+pub fn slowest(end: Instant) -> Option<(f64, usize)> {
     let mut worst: f64 = 0.0;
     let mut tried = 0;
     for own in Patterns::new(LABELS, 3) {
         let definition = [b"[", own.as_slice(), b"]:c\n"].concat();
         let note = definition.repeat(LONGEST_NOTE / definition.len());
-        for (front, back) in
-            words().flat_map(|front| words().map(move |back| (front.clone(), back)))
-        {
+        for (front, back) in patterns::pairs(LABELS, 2) {
+            if Instant::now() > end {
+                return None;
+            }
             for blank in BLANKS {
                 let label = [front.as_slice(), &vec![*blank; COUNT], &back].concat();
                 worst = worst.max(time(&note, &label));
@@ -32,7 +33,7 @@ pub fn slowest() -> (f64, usize) {
             }
         }
     }
-    (worst, tried)
+    Some((worst, tried))
 }
 
 /// The best time of a few.

@@ -49,6 +49,13 @@ impl Iterator for Patterns {
     }
 }
 
+/// All pairs of words.
+pub fn pairs(alphabet: &'static [u8], longest: usize) -> impl Iterator<Item = (Vec<u8>, Vec<u8>)> {
+    Patterns::new(alphabet, longest).flat_map(move |first| {
+        Patterns::new(alphabet, longest).map(move |second| (first.clone(), second))
+    })
+}
+
 fn repeats(word: &[u8]) -> bool {
     let parts = (1..word.len()).filter(|size| word.len() % size == 0);
     parts

@@ -48,7 +48,7 @@ fn main() -> ExitCode {
     let mut lent = Lent::for_any_note();
     let mut slowest = Slowest::default();
     let mut tried = 0;
-    for shape in patterns().chain(in_two_words()).chain(rising_runs()) {
+    for shape in in_one_word().chain(in_two_words()).chain(rising_runs()) {
         if Instant::now() > end {
             println!("{tried} notes in {seconds} seconds: not all");
             return ExitCode::FAILURE;
@@ -58,7 +58,10 @@ fn main() -> ExitCode {
     }
     println!("All {tried} notes. The ten slowest, in nanoseconds a byte:\n");
     slowest.print();
-    let (enquiry, asked) = enquiries::slowest();
+    let Some((enquiry, asked)) = enquiries::slowest(end) else {
+        println!("\nNot all enquiries in {seconds} seconds");
+        return ExitCode::FAILURE;
+    };
     println!("\nAll {asked} enquiries. The slowest: {enquiry:.1}");
     if slowest.worst().max(enquiry) > MOST {
         println!("\nOver {MOST}: too slow.");
@@ -68,7 +71,7 @@ fn main() -> ExitCode {
 }
 
 /// Every short pattern, over and over.
-fn patterns() -> impl Iterator<Item = Shape> {
+fn in_one_word() -> impl Iterator<Item = Shape> {
     let all =
         Patterns::new(ALL, 3).filter(|pattern| !pattern.iter().all(|byte| MARKS.contains(byte)));
     let patterns = Patterns::new(MARKS, 4).chain(all);
@@ -77,9 +80,7 @@ fn patterns() -> impl Iterator<Item = Shape> {
 
 /// Two words of up to two bytes: one after the other, and around a text.
 fn in_two_words() -> impl Iterator<Item = Shape> {
-    let words = || Patterns::new(MARKS, 2);
-    let pairs = words().flat_map(move |first| words().map(move |second| (first.clone(), second)));
-    pairs.flat_map(|(first, second)| {
+    patterns::pairs(MARKS, 2).flat_map(|(first, second)| {
         let mut shapes = vec![halves(&first, &second)];
         for middle in MIDDLES {
             shapes.extend(AMOUNTS.map(|bytes| around(&first, middle, bytes, &second)));
@@ -95,8 +96,7 @@ fn rising_runs() -> impl Iterator<Item = Shape> {
     })
 }
 
-/// Tables for any note, and no page: the page writer measures the page, which costs the note and not
-/// the page's length.
+/// Tables for any note, and no page: the page writer measures the page and does not write it.
 struct Lent {
     definitions: Vec<u32>,
     spans: Vec<u32>,

@@ -16,7 +16,7 @@ use Rattle.text.specs.Reading.{checkOf}
 use Rattle.text.proofs.Refusals.{check-good}
 use Rattle.rows.proofs.Filled as rows
 use Rattle.row.specs.Row as definitionTable
-use Rattle.row.proofs.Filled.{filled-empty, definitions-back}
+use Rattle.row.proofs.Filled.{filled-empty, filled-still, definitions-back}
 use Rattle.definition.specs.Reading.{definitions}
 use Rattle.table.proofs.Lookup.{table-fit}
 use Rattle.span.specs.Row as spanTable
@@ -154,3 +154,14 @@ module _ (s t u : List ℕ) {c : Checked} (ec : c ≡ checkOf s) (good : c ≡ t
         (e
         ∙ sym (by-check s (definitionTable.wholeRows t) spans text.Good (sym ec ∙ good) ∙ enough-definitions (length (definitions s)) (firstDeep s) (length (spanRows s)) (definitionTable.wholeRows t) spans enough))
         (table ∙ rw (e, rows-there (length (definitions s)) (firstDeep s) (length (spanRows s)) spans) refl) (m .spans)
+
+  -- where there are none, the table is the one that was lent
+  module _ (h : count ≤ n) (z : count ≡ 0) where
+    still : part ++ t ≡ definitionTable.filled (definitions s) (part ++ t)
+    still = filled-still (definitions s) (part ++ t) (sym en ∙ z)
+
+    pub none-defined : Defined s (part ++ t) count
+    none-defined = defined h still
+
+    pub none-read : {r : Reading} {u′ : List ℕ} → SpansRead s count u r u′ → Promise s t u r s (part ++ t) u′
+    none-read = all-read h still

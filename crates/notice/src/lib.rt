@@ -81,7 +81,7 @@ fn read_spans(note: &[u8], definitions: &[u32], count: usize, spans: &mut [u32])
     ) {
         Tally::Deep(place) => Reading::Deep(place),
         Tally::Spans(n) => {
-            // Nothing is read again where there is no row to store.
+            // Here too nothing is read again where there is no row to store.
             if n == 0 {
                 return Reading::Read(count, 0);
             }
@@ -111,6 +111,10 @@ pub fn read(note: &[u8], definitions: &mut [u32], spans: &mut [u32]) -> Reading
     if row::whole_rows(definitions) < count {
         return Reading::FewDefinitions(count);
     }
-    table::store_definitions(note, count, definitions);
+    // Nothing is read again where there is no row to store.
+    if count == 0 {
+        return read_spans(note, definitions, count, spans);
+    }
+    table::fill_definitions(note, definitions);
     read_spans(note, definitions, count, spans)
 }

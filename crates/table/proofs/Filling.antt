@@ -6,7 +6,7 @@ use mathlib.Core.List.{List, [], _∷_, _++_, append-assoc, append-nil, List·Me
 use lib.ListN.{length, length-append}
 use Rattle.row.specs.declared.Definition.{Definition}
 use Rattle.row.specs.Row.{Small, filled, stored}
-use Rattle.row.proofs.Filled.{filled-none, filled-still, length-filled, store-next}
+use Rattle.row.proofs.Filled.{filled-none, length-filled, store-next}
 use Rattle.definition.specs.Reading.{definitions}
 use Rattle.walk.specs.declared.Cursor.{Cursor}
 use Rattle.walk.specs.declared.Next.{Next}
@@ -16,10 +16,6 @@ use Rattle.walk.specs.Promise.{Standing, FirstDefinition, IsNext}
 use Rattle.walk.proofs.Steps.{cursor}
 use Rattle.walk.proofs.Whole.{all-definitions}
 use Rattle.walk.proofs.Places.{definitions-small}
-
--- no definition, no row
-pub none-stored : (note t : List ℕ) {n : ℕ} → n ≡ length (definitions note) → n ≡ 0 → t ≡ filled (definitions note) t
-none-stored note t e z = filled-still (definitions note) t (sym e ∙ z)
 
 -- reading stands at c, and k definitions are passed; the table t₀ has become t
 pub record Filling (note t₀ t : List ℕ) (k : ℕ) (c : Cursor) : Type 0 where

@@ -24,15 +24,3 @@ pub fn fill_definitions(note: &[u8], table: &mut [u32]) -> usize
         c = after;
     }
 }
-
-// Stores the rows of the note's definitions, as many as fit, where there are `count` of them. Where there are none the note is not read again.
-pub fn store_definitions(note: &[u8], count: usize, table: &mut [u32])
-    requires { ⌜ length (now note) < 2 ^ 32 ⌝ }
-    requires { ⌜ count ≡ length (definitions (now note)) ⌝ }
-    ensures { λ _. ⌜ now (table .exit) ≡ filled (definitions (now (note .entry))) (now (table .entry)) ⌝ }
-{
-    if count == 0 {
-        return;
-    }
-    fill_definitions(note, table);
-}

@@ -1,6 +1,6 @@
 -- Each return keeps the promise, by what was counted, stored and compared before it.
 use borrow.Author.Needs.{needs}
-use Rattle.notice.proofs.Returns.{too-long, not-good, short, too-few, defined, all-read}
+use Rattle.notice.proofs.Returns.{too-long, not-good, short, too-few, none-defined, none-read, defined, all-read}
 use Rattle.notice.proofs.read.Statement.{statement}
 use Rattle.notice.proofs.read.Tie as tie
 
@@ -42,19 +42,15 @@ same-length c = search needs
 returns-3 : tie.Need-returns-3
 returns-3 c = search returning
 
-store-definitions-requires : tie.Need-store-definitions-requires
-store-definitions-requires c κs = search returning
-
 read-spans-requires : tie.Need-read-spans-requires
 read-spans-requires c κs =
-    let stored = c .before .before .before .before in
-    let compared = stored .before .before in
+    let compared = c .before .before .before in
     let counted = compared .before .before .before .before .before in
     let checked = counted .before .before .before .before in
     let start = checked .before .before .before .before in
-    defined _ (start .args .definitions .now) (start .args .spans .now) (checked .check .ensures .answer) (counted .before .before .enum-told .given .1)
+    none-defined _ (start .args .definitions .now) (start .args .spans .now) (checked .check .ensures .answer) (counted .before .before .enum-told .given .1)
     (counted .fill-definitions .ensures .1) (counted .fill-definitions .ensures .0) (compared .before .whole-rows .ensures) (compared .if1 .left)
-    (stored .store-definitions .ensures)
+    (c .before .before .if2 .taken)
 
 same-length-2 : tie.Need-same-length-2
 same-length-2 c = search needs
@@ -63,7 +59,38 @@ same-length-3 : tie.Need-same-length-3
 same-length-3 c = search needs
 
 returns-4 : tie.Need-returns-4
-returns-4 c = search returning
+returns-4 c =
+    let read = c .before .before in
+    let compared = read .before .before .before .before in
+    let counted = compared .before .before .before .before .before in
+    let checked = counted .before .before .before .before in
+    let start = checked .before .before .before .before in
+    none-read _ (start .args .definitions .now) (start .args .spans .now) (checked .check .ensures .answer) (counted .before .before .enum-told .given .1)
+    (counted .fill-definitions .ensures .1) (counted .fill-definitions .ensures .0) (compared .before .whole-rows .ensures) (compared .if1 .left)
+    (read .before .before .before .if2 .taken) (read .read-spans .ensures)
+
+fill-definitions-requires-2 : tie.Need-fill-definitions-requires-2
+fill-definitions-requires-2 c κs = search returning
+
+read-spans-requires-2 : tie.Need-read-spans-requires-2
+read-spans-requires-2 c κs =
+    let stored = c .before .before .before .before in
+    let compared = stored .before .before .before in
+    let counted = compared .before .before .before .before .before in
+    let checked = counted .before .before .before .before in
+    let start = checked .before .before .before .before in
+    defined _ (start .args .definitions .now) (start .args .spans .now) (checked .check .ensures .answer) (counted .before .before .enum-told .given .1)
+    (counted .fill-definitions .ensures .1) (counted .fill-definitions .ensures .0) (compared .before .whole-rows .ensures) (compared .if1 .left)
+    (stored .fill-definitions2 .ensures .1)
+
+same-length-4 : tie.Need-same-length-4
+same-length-4 c = search needs
+
+same-length-5 : tie.Need-same-length-5
+same-length-5 c = search needs
+
+returns-5 : tie.Need-returns-5
+returns-5 c = search returning
 
 pub read-spec : {M : Type 1} → statement M
 read-spec =
@@ -81,8 +108,12 @@ read-spec =
     whole-rows-requires
     same-length
     returns-3
-    store-definitions-requires
     read-spans-requires
     same-length-2
     same-length-3
-    returns-4)
+    returns-4
+    fill-definitions-requires-2
+    read-spans-requires-2
+    same-length-4
+    same-length-5
+    returns-5)
