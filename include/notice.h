@@ -2,11 +2,15 @@
  * notice.h: reads hospital notices written in Markdown. C99 and C++.
  *
  * A notice ("the note") is at most NOTICE_LIMIT bytes of UTF-8 text with LF line ends, without byte 0 and byte 13 (CR). It need
- * not end in a byte 0. Three entries read it:
+ * not end in a byte 0. Three entries read it, and one compares labels:
  *
- *   notice_read      finds its link reference definitions, its links and its code spans
- *   notice_render    does the same and writes its page, the HTML of its paragraphs
- *   notice_resolve   finds the destination that it gives to a label
+ *   notice_read         finds its link reference definitions, its links and its code spans
+ *   notice_render       does the same and writes its page, the HTML of its paragraphs
+ *   notice_resolve      finds the destination that it gives to a label
+ *   notice_same_label   says whether two labels are equal
+ *
+ * Labels are equal if their bytes agree after A to Z became a to z, spaces, tabs and LFs at both ends were dropped, and each run of
+ * them inside became one space. Backslashes are kept.
  *
  * Places are counted in bytes from the note's start, from 0. A part of the note is given by two places: its start, and its end,
  * which is the place of the first byte after it. A part that is absent is 0, 0.
@@ -21,8 +25,8 @@
  *   what does not matter.
  * - Where the length is 0, nothing is read or written through the pointer, and it may be NULL.
  * - `answer` is never NULL: it points to as many numbers as the declaration says. All of them are stored by every call.
- * - A buffer that the call may write to shares no byte with any other buffer of the call. The note and the label are only read;
- *   they may overlap.
+ * - A buffer that the call may write to shares no byte with any other buffer of the call. Notes and labels are only read; they may
+ *   overlap.
  * - Until the call returns nothing else writes to any of the buffers, and nothing else reads those that the call may write to.
  *
  * Nothing else is asked of the caller: every note, every label and every length has an answer, and every call ends. What the
@@ -34,25 +38,29 @@
  *
  * Cost
  *
- * Stack: a call takes less than 40 KiB for itself, whatever the note (38,304 bytes at most, 416 for notice_resolve). It was measured
- * on the notes of the benchmark by running each entry on a stack that was marked before; the library's tests do so again.
+ * Stack: a call takes less than 40 KiB for itself, whatever the note (38,304 bytes at most, 384 for notice_resolve, 88 for
+ * notice_same_label). It was measured on the notes of the benchmark by running each entry on a stack that was marked before; the
+ * library's tests do so again.
  *
  * Time: but for one thing, reading costs what the note's length costs, and the page its own length besides. It was measured on a
- * virtual core of an AMD EPYC (x86-64), with 222,913 notes of the longest size, made of short words to be slow: repeated, one after
- * the other, around a text as deep as brackets may go, and in rising runs. The slowest took 51 ns a byte, 1.7 ms, and the slowest
- * enquiry, for a label of 990 blanks, 37 ns a byte of the note. The search counts 150 ns a byte, 5 ms for the longest note, as the
+ * virtual core of an Intel Xeon (x86-64), with 222,913 notes of the longest size, made of short words to be slow: repeated, one after
+ * the other, around a text as deep as brackets may go, and in rising runs. The slowest took 45 ns a byte, 1.5 ms, and the slowest
+ * enquiry, for a label of 990 blanks, 48 ns a byte of the note. The search counts 150 ns a byte, 5 ms for the longest note, as the
  * most that a call may take.
  *
  * What costs more is lookup, since each reference is looked up among the definitions one by one. 500 definitions and as many references
- * to them as fit took 8 ms; of notes made to be slow, some 1,600 definitions and 1,500 references whose labels differ only at their
- * ends, and in the case of their letters, took 66 ms there and up to 240 ms on a slower machine, the longest that was found.
+ * to them as fit took 9 ms; of notes made to be slow, some 1,600 definitions and 1,500 references whose labels differ only at their
+ * ends, and in the case of their letters, took 66 ms on one machine and up to 240 ms on a slower one, the longest that was found.
+ *
+ * A comparison of two labels costs what they have in common: labels of 999 characters took 4 to 10 ns where they differ in the first,
+ * and 0.7 to 3.7 us where they are equal.
  *
  *
  * Answers
  *
- * Each entry returns the number of its answer, 0 or that of a refusal, and stores the numbers that go with it in `answer`. On
- * a refusal answer[0] is the value in this table and the other numbers are 0. The first refusal that applies is the answer, in
- * the order 1, 2, 3, 4, 5, 6; notice_resolve has the order 1, 2, 8, 7.
+ * Each entry that reads a note returns the number of its answer, 0 or that of a refusal, and stores the numbers that go with it in
+ * `answer`. On a refusal answer[0] is the value in this table and the other numbers are 0. The first refusal that applies is the
+ * answer, in the order 1, 2, 3, 4, 5, 6; notice_resolve has the order 1, 2, 8, 7. notice_same_label refuses nothing.
  *
  *   number  returned by    exactly when                                                value
  *   0       all            none of the others applies                                  see the entry
@@ -170,8 +178,7 @@ uint32_t notice_render(const uint8_t *note, size_t note_len, uint32_t *definitio
 
 /*
  * Finds the destination that the note gives to a label: that of its first definition with an equal label. The label is given
- * without its brackets. Labels are equal if their bytes agree after A to Z became a to z, spaces, tabs and LFs at both ends
- * were dropped, and each run of them inside became one space.
+ * without its brackets.
  *
  * answer[0]  on success the destination's start; on a refusal the value in the table above
  * answer[1]  on success the destination's start, else 0
@@ -181,6 +188,15 @@ uint32_t notice_render(const uint8_t *note, size_t note_len, uint32_t *definitio
  * Only the number that is returned tells an empty destination from a refusal.
  */
 uint32_t notice_resolve(const uint8_t *note, size_t note_len, const uint8_t *label, size_t label_len, uint64_t answer[3]);
+
+/*
+ * Compares two labels, each given without its brackets: returns 1 if they are equal, else 0.
+ *
+ * Any bytes of any length are compared, those too that are no label: spaces, tabs and LFs alone are equal to each other and to an
+ * empty label. Equal labels that notice_resolve does not refuse with NOTICE_NO_LABEL get one answer from it, in every note. The bytes
+ * are read in step, up to the first difference, and nothing is copied.
+ */
+uint32_t notice_same_label(const uint8_t *a, size_t a_len, const uint8_t *b, size_t b_len);
 
 #ifdef __cplusplus
 }

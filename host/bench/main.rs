@@ -1,9 +1,12 @@
 //! Times the proved reader and page writer on the notes of the benchmark, beside the second reader
 //! and, where they are installed, cmark-gfm and md4c. `docs/BENCHMARK.md` says what is measured.
 //!
-//! `cargo run --release --offline --manifest-path host/Cargo.toml --bin bench [--growth] [NOTE...]`
+//! `cargo run --release --offline --manifest-path host/Cargo.toml --bin bench -- [--growth] [NOTE...]`
+//! `cargo run --release --offline --manifest-path host/Cargo.toml --bin bench -- --labels`
 
+mod comparison;
 mod growth;
+mod labels;
 mod libraries;
 mod measure;
 mod ours;
@@ -19,6 +22,9 @@ use table::Line;
 
 fn main() -> ExitCode {
     let mut names: Vec<String> = std::env::args().skip(1).collect();
+    if names == ["--labels"] {
+        return labels::run();
+    }
     let growth = names.first().is_some_and(|word| word == "--growth");
     if growth {
         names.remove(0);

@@ -103,6 +103,12 @@ static void resolve_case(const char *what, const uint8_t *note, size_t size, con
     same(what, "the number after the answer", answer[3], GUARD);
 }
 
+/* Compares the two labels both ways. */
+static void same_label_case(const char *a, size_t a_len, const char *b, size_t b_len, uint32_t number) {
+    same(a == NULL ? "no bytes" : a, "the comparison", notice_same_label((const uint8_t *)a, a_len, (const uint8_t *)b, b_len), number);
+    same(b == NULL ? "no bytes" : b, "the comparison", notice_same_label((const uint8_t *)b, b_len, (const uint8_t *)a, a_len), number);
+}
+
 static void read_cases(const uint8_t *example, size_t size) {
     static const uint8_t bad[] = {'a', 0xc3, 0xa9, 0xc3};
     read_case("exactly the rows needed", example, size, 6, 10, NOTICE_OK, 0, 1, 1, 1, 1);
@@ -155,6 +161,23 @@ static void resolve_cases(const uint8_t *example, size_t size) {
     resolve_case("a note too long", room, sizeof room, "max", 3, NOTICE_TOO_LONG, sizeof room, 0, 0);
 }
 
+static void same_label_cases(const uint8_t *example) {
+    same_label_case("max", 3, "max", 3, 1);
+    same_label_case("max", 3, "MAX", 3, 1);
+    same_label_case("max", 3, "min", 3, 0);
+    same_label_case("max", 3, "max rate", 8, 0);
+    same_label_case(" Max\t\nrate\n", 11, "max RATE", 8, 1);
+    same_label_case("max\\!", 5, "max!", 4, 0);
+    same_label_case("max\0", 4, "max", 3, 0);
+    same_label_case("\377\n\200", 3, "\377 \200 ", 4, 1);
+    same_label_case(NULL, 0, "", 0, 1);
+    same_label_case(NULL, 0, " \t\n", 3, 1);
+    same_label_case(NULL, 0, NULL, 0, 1);
+    same_label_case(NULL, 0, "a", 1, 0);
+    same_label_case((const char *)example + 1, 3, (const char *)example + 28, 3, 1);
+    same_label_case((const char *)example, 34, (const char *)example, 34, 1);
+}
+
 int main(void) {
     uint8_t example[sizeof EXAMPLE - 1];
     memcpy(example, EXAMPLE, sizeof example);
@@ -162,6 +185,7 @@ int main(void) {
     read_cases(example, sizeof example);
     render_cases(example, sizeof example);
     resolve_cases(example, sizeof example);
+    same_label_cases(example);
     if (memcmp(example, EXAMPLE, sizeof example) != 0) {
         printf("the note changed\n");
         failures++;

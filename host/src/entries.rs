@@ -1,4 +1,4 @@
-//! The three entries of the proved library, as `include/notice.h` declares them, over slices.
+//! The four entries of the proved library, as `include/notice.h` declares them, over slices.
 
 #![allow(unsafe_code)]
 
@@ -34,10 +34,12 @@ pub mod raw {
             label_len: usize,
             answer: *mut [u64; 3],
         ) -> u32;
+
+        pub fn notice_same_label(a: *const u8, a_len: usize, b: *const u8, b_len: usize) -> u32;
     }
 }
 
-use raw::{notice_read, notice_render, notice_resolve};
+use raw::{notice_read, notice_render, notice_resolve, notice_same_label};
 
 /// What the reader answers.
 #[derive(Clone, Copy, Debug, PartialEq, Eq)]
@@ -156,4 +158,10 @@ pub fn resolve(note: &[u8], label: &[u8]) -> Enquiry {
         start,
         end,
     }
+}
+
+/// Compares two labels: 1 where they are equal, else 0.
+pub fn same_label(a: &[u8], b: &[u8]) -> u32 {
+    // SAFETY: each pointer and length is a slice's own, and both are only read.
+    unsafe { notice_same_label(a.as_ptr(), a.len(), b.as_ptr(), b.len()) }
 }

@@ -1,6 +1,7 @@
-//! Notes by chance, the same in every run with the same seed, and the notes of the benchmark.
+//! Notes by chance, the same in every run with the same seed, and the notes and labels of the benchmark.
 
 pub mod alphabets;
 pub mod bench_notes;
 pub mod chance;
 pub mod grammar;
+pub mod long_labels;

@@ -2,7 +2,7 @@
 
 use std::path::Path;
 
-use host::cases::{all, container, enquiry, expected, tables_and_page, Case};
+use host::cases::{all, comparison, container, enquiry, expected, tables_and_page, Case};
 use host::second::{Reader, Wrong};
 
 /// A file of the program.
@@ -33,12 +33,29 @@ fn stored_output_is_the_second_readers() {
     assert!(rest.is_empty(), "the stored output has more");
 }
 
-/// What the second reader expects of a case, in two parts; the whole is what is stored.
+/// The parts of what is expected of a case.
+const PARTS: [fn(Reader, &Case) -> Vec<u8>; 3] = [tables_and_page, enquiry, comparison];
+const TABLES_AND_PAGE: usize = 0;
+const ENQUIRY: usize = 1;
+const COMPARISON: usize = 2;
+
+/// The parts in which a wrong reading has to show: what is the enquiry's alone in the enquiry,
+/// everything else in the tables or the page, and which labels are equal in the comparison too.
+fn shows_in(wrong: Wrong) -> &'static [usize] {
+    if wrong.is_of_enquiry() {
+        return &[ENQUIRY];
+    }
+    if wrong.is_of_comparison() {
+        return &[TABLES_AND_PAGE, COMPARISON];
+    }
+    &[TABLES_AND_PAGE]
+}
+
+/// What the second reader expects of a case, in its parts; the whole is what is stored.
 struct Stored<'a> {
     index: usize,
     case: &'a Case,
-    tables_and_page: Vec<u8>,
-    enquiry: Vec<u8>,
+    parts: [Vec<u8>; 3],
 }
 
 impl<'a> Stored<'a> {
@@ -46,20 +63,13 @@ impl<'a> Stored<'a> {
         Stored {
             index: index + 1,
             case,
-            tables_and_page: tables_and_page(Reader::RIGHT, case),
-            enquiry: enquiry(Reader::RIGHT, case),
+            parts: PARTS.map(|part| part(Reader::RIGHT, case)),
         }
     }
 
-    /// Whether a wrong reading expects something else. What is the enquiry's alone has to show in
-    /// the enquiry, everything else in the tables or the page.
-    fn tells(&self, wrong: Wrong) -> bool {
-        let reader = Reader::misreading(wrong);
-        if wrong.is_of_enquiry() {
-            enquiry(reader, self.case) != self.enquiry
-        } else {
-            tables_and_page(reader, self.case) != self.tables_and_page
-        }
+    /// Whether a wrong reading expects something else of the part.
+    fn tells(&self, wrong: Wrong, part: usize) -> bool {
+        PARTS[part](Reader::misreading(wrong), self.case) != self.parts[part]
     }
 
     fn is_by_chance(&self) -> bool {
@@ -68,7 +78,7 @@ impl<'a> Stored<'a> {
 }
 
 /// Each wrong reading expects something else than what is stored, of one case at least that is no
-/// case by chance.
+/// case by chance, in each part in which it has to show.
 #[test]
 fn every_wrong_reading_is_told_apart() {
     let cases = all();
@@ -77,10 +87,13 @@ fn every_wrong_reading_is_told_apart() {
     // Short notes first: they tell most readings apart, and are quick.
     stored.sort_by_key(|stored| stored.case.note.len());
     let mut missed = Vec::new();
-    for wrong in Wrong::all() {
-        match stored.iter().find(|stored| stored.tells(wrong)) {
+    let all = Wrong::all().into_iter();
+    for (wrong, part) in
+        all.flat_map(|wrong| shows_in(wrong).iter().map(move |part| (wrong, *part)))
+    {
+        match stored.iter().find(|stored| stored.tells(wrong, part)) {
             Some(told) => println!("{wrong:?}: case {}, {}", told.index, told.case.name),
-            None => missed.push(wrong),
+            None => missed.push((wrong, part)),
         }
     }
     assert!(missed.is_empty(), "told apart by no case: {missed:?}");

@@ -67,6 +67,12 @@ pub mod second {
         }
     }
 
+    pub fn same_label(a: &[u8], b: &[u8]) -> bool {
+        let number = entries::same_label(a, b);
+        assert!(number <= 1, "{number} for two labels");
+        number == 1
+    }
+
     /// The rows at the start of a table that was full of `NUMBER`; `None` where nothing is written
     /// and nothing should be. A row written in part is kept, so that it differs from any wanted.
     fn rows<const WIDTH: usize>(table: &[u32], expected: bool) -> Option<Vec<[u32; WIDTH]>> {

@@ -83,7 +83,7 @@ fn a_call_keeps_to_the_promised_stack() {
     let mut definitions = vec![0; rows * DEFINITION_ROW_WIDTH];
     let mut spans = vec![0; rows * SPAN_ROW_WIDTH];
     let mut page = vec![0; 1 << 20];
-    let mut most = [0; 3];
+    let mut most = [0; 4];
     for note in bench_notes::all() {
         let note = &note.bytes;
         let calls = [
@@ -96,12 +96,15 @@ fn a_call_keeps_to_the_promised_stack() {
             taken(|| {
                 entries::resolve(note, b"limit 499");
             }),
+            taken(|| {
+                entries::same_label(note, note);
+            }),
         ];
-        most = [0, 1, 2].map(|entry| most[entry].max(calls[entry]));
+        most = [0, 1, 2, 3].map(|entry| most[entry].max(calls[entry]));
     }
     println!(
-        "reader {}, page writer {}, enquiry {}",
-        most[0], most[1], most[2]
+        "reader {}, page writer {}, enquiry {}, comparison {}",
+        most[0], most[1], most[2], most[3]
     );
     assert!(
         most.iter().all(|bytes| (1..PROMISED).contains(bytes)),

@@ -1,15 +1,14 @@
 -- The turns of the search: no definition is left, the next one has an equal label, or it has another.
-use Prim.Native.Nat.{ℕ, _-_, _<_, _^_}
+use Prim.Native.Nat.{ℕ, _-_, _≤_, _<_}
 use native.Mathlib.Omega.{arith}
 use mathlib.Core.Path.{_≡_, refl, sym, ap, _∙_}
 use mathlib.Core.List.{List, [], List·Memᴰ, List·Memᴰ·head, List·Memᴰ·tail}
-use mathlib.Core.Bool.{true, false}
+use mathlib.Core.Bool.{Bool, true, false, not}
+use borrow.Author.Tests.{not-true, not-false}
 use lib.ListN.{length}
-use Rattle.scan.specs.declared.Found.{Found}
-use Rattle.scan.specs.declared.Found.the-variants.{At, Nothing}
+use Rattle.matching.specs.Reading.{matches}
 use Rattle.row.specs.declared.Definition.{Definition}
-use Rattle.row.specs.Row.{width, Small, stored}
-use Rattle.row.specs.Reading.{rowOf, Fit}
+use Rattle.row.specs.First.{bytesOf}
 use Rattle.definition.specs.Reading.{definitions}
 use Rattle.walk.specs.declared.Cursor.{Cursor}
 use Rattle.walk.specs.declared.Next.{Next}
@@ -18,10 +17,10 @@ use Rattle.walk.specs.Reading.{definitionsAfter}
 use Rattle.walk.specs.Promise.{Standing, FirstDefinition, IsNext}
 use Rattle.walk.proofs.Steps.{cursor}
 use Rattle.walk.proofs.Whole.{all-definitions}
-use Rattle.walk.proofs.Places.{definitions-lie, definitions-small}
+use Rattle.walk.proofs.Places.{Lies, definitions-lie}
 use Rattle.enquiry.specs.declared.Enquiry.the-variants.{Undefined}
 use Rattle.enquiry.specs.Reading.{answerBy, answerIn, answerFor}
-use Rattle.enquiry.proofs.Lookup.{none-left, equal-here, other-here, row-fit, row-found, row-missed}
+use Rattle.enquiry.proofs.Lookup.{none-left, equal-here, other-here}
 
 -- reading stands at c, and the definitions left there give what all of them do
 pub record Searching (note label : List ℕ) (c : Cursor) : Type 0 where
@@ -55,28 +54,30 @@ module _ (note label : List ℕ) where
         in-note : List·Memᴰ d (definitions note)
         in-note = s .among d (rw (here .first) (List·Memᴰ·head refl))
 
-        pub small : length note < 2 ^ 32 → Small d
-        small h = definitions-small note h d in-note
+        lies : Lies note d
+        lies = definitions-lie note d in-note
+
+        pub label-ordered : d .label .start ≤ d .label .end
+        label-ordered = lies .places .label
+
+        pub label-inside : d .label .end ≤ length note
+        label-inside = let p = lies .places in omega (arith, p .apart, p .destination, p .ends, p .inside)
 
         pub less : length note - c′ .at < length note - c .at
         less = omega (arith, here .onward, here .within .ordered, here .within .inside)
 
-        -- d is the one row of the table t
-        module _ (t₀ : List ℕ) {t : List ℕ} (size : length t₀ ≡ width) (row : t ≡ stored t₀ 0 d) where
-          pub fits : Fit note t 1
-          fits = row-fit note label d t₀ size row (definitions-lie note d in-note)
+        -- v is whether its label is equal
+        module _ {v : Bool} (tells : v ≡ matches (bytesOf note (d .label)) label) where
+          pub equal : not v ≡ false → answerBy d ≡ answerFor note label
+          equal t =
+              sym (equal-here note label d (definitionsAfter note c′) (sym tells ∙ not-false v t))
+              ∙ ap (answerIn note label) (sym (here .first)) ∙ s .same
 
-          module _ {f : Found} (tells : f ≡ rowOf note t label 1) where
-            pub equal : {k : ℕ} → f ≡ At k → answerBy d ≡ answerFor note label
-            equal q =
-                sym (equal-here note label d (definitionsAfter note c′) (row-found note label d t₀ size row (sym tells ∙ q)))
-                ∙ ap (answerIn note label) (sym (here .first)) ∙ s .same
-
-            pub other : f ≡ Nothing → Searching note label c′
-            other q = record {
-              same =
-                  sym (other-here note label d (definitionsAfter note c′) (row-missed note label d t₀ size row (sym tells ∙ q)))
-                  ∙ ap (answerIn note label) (sym (here .first)) ∙ s .same;
-              among = λ k m. s .among k (rw (here .first) (List·Memᴰ·tail m));
-              within = here .within;
-            }
+          pub other : not v ≡ true → Searching note label c′
+          other t = record {
+            same =
+                sym (other-here note label d (definitionsAfter note c′) (sym tells ∙ not-true v t))
+                ∙ ap (answerIn note label) (sym (here .first)) ∙ s .same;
+            among = λ k m. s .among k (rw (here .first) (List·Memᴰ·tail m));
+            within = here .within;
+          }

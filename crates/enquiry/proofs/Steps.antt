@@ -1,17 +1,15 @@
 -- What the code learns step by step, and the answer that it makes of that.
-use Prim.Native.Nat.{ℕ, _-_, _<_, _^_}
-use native.Mathlib.Omega.{arith}
+use Prim.Native.Nat.{ℕ, _-_}
 use mathlib.Core.Path.{_≡_, refl, sym, ap, _∙_}
 use mathlib.Core.List.{List, [], _∷_}
 use mathlib.Core.Bool.{Bool, true, false, not}
 use borrow.Author.Tests.{not-true, not-false}
-use lib.ListN.{length, take, drop}
+use lib.ListN.{take, drop}
 use Rattle.scan.specs.declared.Found.{Found}
 use Rattle.scan.specs.declared.Found.the-variants as found
 use Rattle.text.specs.declared.Checked.{Checked}
 use Rattle.text.specs.declared.Checked.the-variants as checked
 use Rattle.text.specs.Reading.{firstBad, checkOf}
-use Rattle.text.proofs.Refusals.{check-good}
 use Rattle.label.specs.Reading.{isLabel}
 use Rattle.enquiry.specs.declared.Enquiry.{Enquiry}
 use Rattle.enquiry.specs.declared.Enquiry.the-variants as enquiry
@@ -45,9 +43,6 @@ module _ (note label : List ℕ) {x : Checked} (check : x ≡ checkOf note) wher
   pub bad-note : {k : ℕ} → x ≡ checked.Bad k → enquiry.Bad k ≡ enquiryOf note label
   unfolding enquiryOf
   bad-note e = ap (checkedEnquiry note label) (sym e ∙ check)
-
-  pub short-note : x ≡ checked.Good → length note < 2 ^ 32
-  short-note e = omega (arith, check-good note .0 (sym check ∙ e) .0)
 
   module _ (good : x ≡ checked.Good) {p : Bool} (tells : p ≡ goodLabel label) where
     pub refused-label : not p ≡ true → enquiry.NotLabel ≡ enquiryOf note label

@@ -1,11 +1,9 @@
 // The enquiry: the destination that a note gives to a label.
 ghost use mathlib.Core.Path.{_≡_};
-ghost use Prim.Native.Nat.{_<_, _^_};
-ghost use lib.ListN.{length};
 ghost use Rattle.enquiry.specs.Enquiry.{numberOf, valueOf};
 ghost use Rattle.enquiry.specs.Reading.{goodLabel, answerFor, enquiryOf};
 ghost use Rattle.enquiry.specs.Promise.{Resolved};
-use row::Definition;
+use row::Range;
 use scan::Found;
 use text::Checked;
 use walk::Cursor;
@@ -59,10 +57,8 @@ fn good_label(label: &[u8]) -> bool
     }
 }
 
-// The destination of the note's first definition that has an equal label. Each definition makes a table of one row, which is looked
-// up: `row::lookup` has the loop over the label.
+// The destination of the note's first definition that has an equal label.
 fn find(note: &[u8], label: &[u8]) -> Enquiry
-    requires { ⌜ length (now note) < 2 ^ 32 ⌝ }
     ensures { λ r. ⌜ r ≡ answerFor (now (note .entry)) (now (label .entry)) ⌝ }
 {
     let mut c = Cursor { at: 0, end: 0 };
@@ -70,12 +66,11 @@ fn find(note: &[u8], label: &[u8]) -> Enquiry
         let Next::Definition(d, after) = walk::next_definition(note, c) else {
             break 'definitions Enquiry::Undefined;
         };
-        let mut row = [0; Definition::WIDTH];
-        row::store(&mut row, 0, d);
-        let Found::At(_) = row::lookup(note, &row, 1, label) else {
+        let Range { start, end } = d.label;
+        if !matching::same_label(&note[start..end], label) {
             c = after;
             continue 'definitions;
-        };
+        }
         break 'definitions Enquiry::Destination(d.destination.start, d.destination.end);
     }
 }

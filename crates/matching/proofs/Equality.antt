@@ -130,3 +130,9 @@ matches-sym a b m = matches-iff b a .1 (sym (matches-iff a b .0 m))
 
 pub matches-trans : (a b c : List ℕ) → matches a b ≡ true → matches b c ≡ true → matches a c ≡ true
 matches-trans a b c m n = matches-iff a c .1 (matches-iff a b .0 m ∙ matches-iff b c .0 n)
+
+-- labels that match are matched by the same labels
+pub matches-alike : (l a b : List ℕ) → matches a b ≡ true → matches l a ≡ matches l b
+matches-alike l a b m =
+    by (matches l a) (λ e. e ∙ sym (matches-trans l a b e m))
+    (λ e. by (matches l b) (λ f. absurd (true≢false (sym (matches-trans l b a f (matches-sym a b m)) ∙ e))) (λ f. e ∙ sym f))

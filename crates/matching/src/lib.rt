@@ -1,9 +1,10 @@
-// The steps that compare two link labels, with no copy. The loop over them is the lookup's (row::lookup).
+// When two link labels are equal, and the steps that tell it: both labels are read in step, with no copy, up to the first difference.
+// Two loops go over these steps: the lookup's (row::lookup), and the one of `same_label`.
 ghost use mathlib.Core.Path.{_≡_};
 ghost use Rattle.scan.specs.Byte.{blank};
 ghost use Rattle.scan.specs.Reading.{past};
 ghost use Rattle.matching.specs.Form.{fold};
-ghost use Rattle.matching.specs.Reading.{gap, agree, unlike, same};
+ghost use Rattle.matching.specs.Reading.{gap, agree, unlike, same, matches};
 
 // A to Z as a to z.
 fn folded(b: u8) -> u8
@@ -80,4 +81,32 @@ pub fn same_at(a: &[u8], b: &[u8], i: usize, j: usize) -> bool
     let x = a[i];
     let y = b[j];
     (x == y) & (32 < x)
+}
+
+// Whether two labels are equal.
+pub fn same_label(a: &[u8], b: &[u8]) -> bool
+    ensures { λ r. ⌜ r ≡ matches (now (a .entry)) (now (b .entry)) ⌝ }
+{
+    if are_unlike(scan::peek(a, 0), scan::peek(b, 0)) {
+        return false;
+    }
+    let mut i = 0;
+    let mut j = 0;
+    loop {
+        if same_at(a, b, i, j) {
+            i += 1;
+            j += 1;
+            continue;
+        }
+        let p = past_blanks(a, i);
+        let q = past_blanks(b, j);
+        if !agree_at(a, b, i, j, p, q) {
+            return false;
+        }
+        if a.len() <= p {
+            return true;
+        }
+        i = p + 1;
+        j = q + 1;
+    }
 }

@@ -1,3 +1,4 @@
 pub mod Read
 pub mod Render
 pub mod Resolve
+pub mod SameLabel

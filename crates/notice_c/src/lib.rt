@@ -2,6 +2,7 @@
 ghost use Rattle.notice_c.specs.Read.{ReadPromise};
 ghost use Rattle.notice_c.specs.Render.{RenderPromise};
 ghost use Rattle.notice_c.specs.Resolve.{ResolvePromise, startBy};
+ghost use Rattle.notice_c.specs.SameLabel.{SameLabelPromise};
 ghost use mathlib.Core.Path.{_≡_};
 
 // Reads a note: fills the two tables that are lent, or refuses. The answer's number is returned; its value and the counts of
@@ -70,4 +71,15 @@ pub extern "C" fn notice_resolve(note: &[u8], label: &[u8], answer: &mut [u64; 3
     let end = start + part.len() as u64;
     *answer = [value, start, end];
     number as u32
+}
+
+// Whether two labels are equal, each given without its brackets: 1 where they are, and else 0.
+#[no_mangle]
+pub extern "C" fn notice_same_label(a: &[u8], b: &[u8]) -> u32
+    ensures { λ r. ⌜ SameLabelPromise (now (a .entry)) (now (b .entry)) r (now (a .exit)) (now (b .exit)) ⌝ }
+{
+    if matching::same_label(a, b) {
+        return 1;
+    }
+    0
 }

@@ -13,7 +13,7 @@ use Rattle.scan.specs.declared.Found.{Found}
 use Rattle.scan.specs.declared.Found.the-variants.{At, Nothing}
 use Rattle.matching.specs.Form.{Equal}
 use Rattle.matching.specs.Reading.{matches}
-use Rattle.matching.proofs.Equality.{matches-equal}
+use Rattle.matching.proofs.Equality.{matches-equal, matches-alike}
 use Rattle.row.specs.First.{FirstEqual, NoneEqual}
 use Rattle.row.specs.Reading.{matchFrom, firstMatch}
 use Rattle.row.proofs.Turn.{match-hit, match-miss}
@@ -73,3 +73,13 @@ first-equal labels label k = (to-first label (says label labels 0), from-first l
 
 pub none-equal : (labels : List (List ℕ)) (label : List ℕ) → (firstMatch labels label ≡ Nothing) ↔ NoneEqual labels label
 none-equal labels label = (to-none label (says label labels 0), from-none label (says label labels 0))
+
+-- ---- labels that match find the same label
+pub match-alike : (k : ℕ) (ls : List (List ℕ)) (a b : List ℕ) → matches a b ≡ true → matchFrom k ls a ≡ matchFrom k ls b
+unfolding matchFrom
+match-alike k [] a b m = refl
+match-alike k (l ∷ ls) a b m =
+    let q : matches l a ≡ matches l b = matches-alike l a b m in
+    by (matches l a)
+    (λ e. match-hit k l ls a e ∙ sym (match-hit k l ls b (sym q ∙ e)))
+    (λ e. match-miss k l ls a e ∙ match-alike (k + 1) ls a b m ∙ sym (match-miss k l ls b (sym q ∙ e)))

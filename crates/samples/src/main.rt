@@ -1,8 +1,6 @@
-// Runs the three entries on the cases of standard input (crate container). Prints the reader's answer with both tables whole, the page
-// writer's with both tables and the page buffer whole, and the enquiry's with the part that it hands back. What is lent and not
-// written shows as the guard.
-mod print;
-
+// Runs the four entries on the cases of standard input (crate container). Prints the reader's answer with both tables whole, the page
+// writer's with both tables and the page buffer whole, the enquiry's with the part that it hands back, and whether the note's bytes
+// and the label's are equal as labels. What is lent and not written shows as the guard.
 use container::Header;
 use container::Sizes;
 use libc::STDIN_FILENO;
@@ -51,8 +49,8 @@ fn show_reading(note: &[u8], sizes: Sizes)
     let mut span_room = span_table();
     let definitions = &mut definition_room[..sizes.definitions];
     let spans = &mut span_room[..sizes.spans];
-    print::reading(notice::read(note, definitions, spans));
-    print::tables(definitions, spans);
+    report::reading(notice::read(note, definitions, spans));
+    report::tables(definitions, spans);
 }
 
 // Runs the page writer likewise, and prints what it answers and the tables and the page that it leaves.
@@ -65,26 +63,31 @@ fn show_rendering(note: &[u8], sizes: Sizes)
     let definitions = &mut definition_room[..sizes.definitions];
     let spans = &mut span_room[..sizes.spans];
     let page = &mut page_room[..sizes.page];
-    print::rendering(rendering::render(note, definitions, spans, page));
-    print::tables(definitions, spans);
-    print::line(page);
+    report::rendering(rendering::render(note, definitions, spans, page));
+    report::tables(definitions, spans);
+    report::line(page);
 }
 
 // Runs the enquiry, and prints what it answers and the part that it hands back.
 fn show_enquiry(note: &[u8], label: &[u8]) {
     let mut answer: [u64; 2] = [0; 2];
     let part = enquiry::resolve(note, label, &mut answer);
-    print::enquiry(&answer);
-    print::line(part);
+    report::enquiry(&answer);
+    report::line(part);
+}
+
+// Compares the note's bytes with the label's, as two labels, and prints whether they are equal.
+fn show_comparison(note: &[u8], label: &[u8]) {
+    report::comparison(matching::same_label(note, label));
 }
 
 // The container does not go on as it should.
 fn stop() -> bool {
-    print::text(b"bad container\n");
+    report::text(b"bad container\n");
     false
 }
 
-// Runs the three entries on the note and the label that stand in `lines`, each with a line end after it.
+// Runs the four entries on the note and the label that stand in `lines`, each with a line end after it.
 fn run_lines(lines: &[u8], sizes: Sizes) -> bool
     requires { ⌜ Lendable sizes ⌝ }
     requires { ⌜ Framed (length (now lines)) sizes ⌝ }
@@ -98,7 +101,9 @@ fn run_lines(lines: &[u8], sizes: Sizes) -> bool
     let note = &lines[..length];
     show_reading(note, sizes);
     show_rendering(note, sizes);
-    show_enquiry(note, &lines[start..end]);
+    let label = &lines[start..end];
+    show_enquiry(note, label);
+    show_comparison(note, label);
     true
 }
 
@@ -140,9 +145,9 @@ fn run_case(index: u64) -> bool {
     if got == 0 {
         return false;
     }
-    print::text(b"case");
-    print::number(index);
-    print::text(b"\n");
+    report::text(b"case");
+    report::number(index);
+    report::text(b"\n");
     let Header::Case(sizes) = container::read_header(&line[..got]) else {
         return stop();
     };

@@ -1,4 +1,4 @@
-//! What the program `samples` has to print for a case: what the three entries answer and leave, by
+//! What the program `samples` has to print for a case: what the four entries answer and leave, by
 //! a reader of one's choice.
 
 use super::Case;
@@ -12,7 +12,8 @@ const PAGE_GUARD: u8 = 13;
 /// The lines for the case with this number, from 1.
 pub fn expected(reader: Reader, index: usize, case: &Case) -> Vec<u8> {
     let name = format!("case {index}\n").into_bytes();
-    [name, tables_and_page(reader, case), enquiry(reader, case)].concat()
+    let answers = [tables_and_page, enquiry, comparison].map(|lines| lines(reader, case));
+    [name, answers.concat()].concat()
 }
 
 /// The lines of the reader and the page writer.
@@ -56,6 +57,12 @@ pub fn enquiry(reader: Reader, case: &Case) -> Vec<u8> {
     let answer = reader.resolve(&case.note, &case.label);
     let line = format!("enquiry {} {}\n", answer.number, answer.value);
     [line.as_bytes(), &case.note[answer.destination], b"\n"].concat()
+}
+
+/// Whether the note's bytes and the label's are equal as labels.
+pub fn comparison(reader: Reader, case: &Case) -> Vec<u8> {
+    let equal = reader.same_label(&case.note, &case.label);
+    format!("same {}\n", u8::from(equal)).into_bytes()
 }
 
 /// Both tables whole.

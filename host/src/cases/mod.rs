@@ -8,16 +8,18 @@ mod characters;
 mod definitions;
 mod enquiries;
 mod expected;
+mod labels;
 mod lending;
 mod limits;
 mod links;
 mod named;
 
-pub use expected::{enquiry, expected, tables_and_page};
+pub use expected::{comparison, enquiry, expected, tables_and_page};
 
 use crate::second::{DEFINITION_ROW_WIDTH, SPAN_ROW_WIDTH};
 
-/// One case: what it is, what is lent, the note, and the label that is asked for.
+/// One case: what it is, what is lent, the note, and the label that is asked for. The note and the label are
+/// compared as two labels, too.
 pub struct Case {
     pub name: String,
     pub definition_numbers: usize,
@@ -100,6 +102,7 @@ pub fn all() -> Vec<Case> {
         characters::cases(),
         lending::cases(),
         enquiries::cases(),
+        labels::cases(),
         chance::cases(),
     ]
     .into_iter()

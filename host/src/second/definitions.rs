@@ -10,7 +10,7 @@ pub(super) struct Definition {
     pub label: Part,
     pub destination: Part,
     pub title: Option<Part>,
-    pub compared_label: String,
+    pub compared_label: Vec<u8>,
 }
 
 /// What stands in a note: its definitions and its paragraphs, both in note order.
@@ -104,7 +104,7 @@ impl Reader {
                 label,
                 destination,
                 title,
-                compared_label: self.compared_form(label.of(note)),
+                compared_label: self.compared_form(label.of(note).as_bytes()),
             });
             if self.misreads(Wrong::OneDefinitionABlock) {
                 break;
@@ -165,7 +165,7 @@ impl Reader {
     /// The number, from 1, of the definition a label names: "In a lookup the search stops at the
     /// first equal label."
     pub(super) fn look_up(self, definitions: &[Definition], label: &str) -> Option<usize> {
-        let wanted = self.compared_form(label);
+        let wanted = self.compared_form(label.as_bytes());
         let mut equal = definitions
             .iter()
             .enumerate()

@@ -65,16 +65,20 @@ impl Reader {
     }
 
     /// "Equal labels: fold A to Z to a to z, trim space, tab and LF, make each inner run of them
-    /// one space; then the bytes agree. Escapes are not undone."
-    pub(super) fn compared_form(self, label: &str) -> String {
+    /// one space; then the bytes agree. Escapes are not undone." Any bytes have a form.
+    pub(super) fn compared_form(self, label: &[u8]) -> Vec<u8> {
         if let Some(form) = self.misread_form(label) {
-            return form;
+            return form.into_bytes();
         }
         label
-            .split(is_space)
+            .split(|byte| is_space(char::from(*byte)))
             .filter(|word| !word.is_empty())
-            .map(str::to_ascii_lowercase)
-            .collect::<Vec<String>>()
-            .join(" ")
+            .map(<[u8]>::to_ascii_lowercase)
+            .collect::<Vec<Vec<u8>>>()
+            .join(&b' ')
+    }
+
+    pub fn same_label(self, a: &[u8], b: &[u8]) -> bool {
+        self.compared_form(a) == self.compared_form(b)
     }
 }

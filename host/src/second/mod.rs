@@ -9,7 +9,7 @@
 //! The rooms: `text` (good characters, parts, the descent), `labels`, `targets` (destinations and
 //! titles), `definitions`, `marking` and `tails`, `rows`, `page`, `answers`. A [`Reader`] can be told
 //! to misread one rule (`wrong`); a test uses that to show what the stored cases tell apart. The
-//! functions [`read`], [`render`] and [`resolve`] are the right reading.
+//! functions [`read`], [`render`], [`resolve`] and [`same_label`] are the right reading.
 
 mod answers;
 mod definitions;
@@ -53,6 +53,11 @@ pub fn render(
 /// "The enquiry takes a note and a label without its brackets, and finds the destination."
 pub fn resolve(note: &[u8], label: &[u8]) -> ResolveAnswer {
     Reader::RIGHT.resolve(note, label)
+}
+
+/// Whether two labels, each without its brackets, are equal.
+pub fn same_label(a: &[u8], b: &[u8]) -> bool {
+    Reader::RIGHT.same_label(a, b)
 }
 
 impl Reader {

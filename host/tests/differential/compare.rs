@@ -100,6 +100,21 @@ pub fn resolve(note: &[u8], label: &[u8]) -> Compared {
     Ok(wanted.number)
 }
 
+/// The comparison of two labels.
+pub fn same_label(a: &[u8], b: &[u8]) -> Compared {
+    let [mut one, mut other] = [a, b].map(Lent::bytes);
+    let given = entries::same_label(one.part(), other.part());
+    let wanted = u32::from(second::same_label(a, b));
+    same(&given, &wanted)
+        .and_then(|()| one.same("one label", a))
+        .and_then(|()| other.same("other label", b))
+        .map_err(|what| {
+            let [a, b] = [a, b].map(<[u8]>::escape_ascii);
+            format!("labels \"{a}\" and \"{b}\"\n{what}")
+        })?;
+    Ok(wanted)
+}
+
 /// Whether the two answers are the same.
 fn same<T: PartialEq + std::fmt::Debug>(given: &T, wanted: &T) -> Result<(), String> {
     if given == wanted {

@@ -2,7 +2,8 @@
 //! values and counts, both tables and the page whole, with the guards around them.
 //!
 //! Random notes are the same in every run. Two environment variables change that:
-//! - `NOTICE_DIFFERENTIAL_NOTES=N`: so many random notes in all (600,000 if not given);
+//! - `NOTICE_DIFFERENTIAL_NOTES=N`: so many random notes in all (600,000 if not given), and as many
+//!   pairs of labels;
 //! - `NOTICE_DIFFERENTIAL_SEED=S`: another seed (1 if not given).
 //!
 //! A longer run: `NOTICE_DIFFERENTIAL_NOTES=20000000 NOTICE_DIFFERENTIAL_SEED=2 cargo test
@@ -11,6 +12,7 @@
 
 mod bad;
 mod compare;
+mod labels;
 mod lent;
 mod named;
 mod random;

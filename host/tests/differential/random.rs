@@ -10,6 +10,20 @@ use host::generate::grammar;
 const NOTES: u64 = 600_000;
 const SEED: u64 = 1;
 
+/// How many there are in all.
+pub fn notes() -> u64 {
+    setting("NOTICE_DIFFERENTIAL_NOTES", NOTES)
+}
+
+/// The numbers by chance for the trial with this index.
+pub fn chance(index: u64) -> Chance {
+    Chance::from_seed(seed().wrapping_mul(1_000_000_007).wrapping_add(index))
+}
+
+pub fn seed() -> u64 {
+    setting("NOTICE_DIFFERENTIAL_SEED", SEED)
+}
+
 fn setting(name: &str, otherwise: u64) -> u64 {
     match std::env::var(name) {
         Ok(value) => value
@@ -21,14 +35,13 @@ fn setting(name: &str, otherwise: u64) -> u64 {
 
 /// Compares so many notes of one maker.
 fn run(maker: &str, notes: u64, tally: &mut Tally, make: impl Fn(&mut Chance) -> Vec<u8>) {
-    let seed = setting("NOTICE_DIFFERENTIAL_SEED", SEED);
     for index in 0..notes {
-        let chance = &mut Chance::from_seed(seed.wrapping_mul(1_000_000_007).wrapping_add(index));
+        let chance = &mut chance(index);
         let note = make(chance);
         let variant = chance.number();
         let compared = trial::compare(&note, variant, tally);
         if let Err(what) = compared {
-            let place = format!("seed {seed}, {maker}, note {index}");
+            let place = format!("seed {}, {maker}, note {index}", seed());
             report(&place, &note, variant, &what);
         }
     }
@@ -55,7 +68,7 @@ fn settle(tally: &Tally, notes: u64) {
 
 #[test]
 fn notes_from_the_alphabets() {
-    let notes = setting("NOTICE_DIFFERENTIAL_NOTES", NOTES) / 3 * 2;
+    let notes = notes() / 3 * 2;
     let mut tally = Tally::default();
     for alphabet in ALPHABETS {
         let share = notes / ALPHABETS.len() as u64;
@@ -68,7 +81,7 @@ fn notes_from_the_alphabets() {
 
 #[test]
 fn notes_from_the_grammar() {
-    let notes = setting("NOTICE_DIFFERENTIAL_NOTES", NOTES) / 3;
+    let notes = notes() / 3;
     let mut tally = Tally::default();
     run("grammar", notes, &mut tally, grammar::note);
     settle(&tally, notes);

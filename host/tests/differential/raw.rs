@@ -3,7 +3,7 @@
 
 #![allow(unsafe_code)]
 
-use host::entries::raw::{notice_read, notice_render, notice_resolve};
+use host::entries::raw::{notice_read, notice_render, notice_resolve, notice_same_label};
 use host::second;
 use std::ptr::{null, null_mut};
 
@@ -152,4 +152,29 @@ fn label_inside_the_note() {
         )
     });
     assert_eq!((number, value, start, end), (0, 14, 14, 14));
+}
+
+/// Labels that are not there are lent as a null pointer; two that are may be parts of each other.
+#[test]
+fn answers_of_the_comparison() {
+    let whole: &[u8] = b" A\tb a B";
+    let labels = [
+        b"",
+        &whole[..0],
+        b" \n",
+        b"a",
+        whole,
+        &whole[..4],
+        &whole[5..],
+    ];
+    let mut equal = 0;
+    for a in labels {
+        for b in labels {
+            // SAFETY: each pointer and length is a slice's own, or null and 0.
+            let given = unsafe { notice_same_label(read_only(a), a.len(), read_only(b), b.len()) };
+            assert_eq!(given, u32::from(second::same_label(a, b)));
+            equal += given;
+        }
+    }
+    assert_eq!(equal, 9 + 1 + 1 + 4);
 }

@@ -4,6 +4,7 @@
 mod bench;
 mod blocks;
 mod brackets;
+mod labels;
 mod lengths;
 mod markings;
 mod pages;

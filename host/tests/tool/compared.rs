@@ -35,11 +35,12 @@ fn compare_definitions(note: &str, listed: &[Value], rows: &[DefinitionRow]) {
     }
 }
 
-/// The first row with an equal label, found here by the labels' compared forms.
+/// The first row with an equal label, by the second reader.
 fn compare_hidden(note: &str, item: &Value, index: usize, rows: &[DefinitionRow]) {
-    let form = |row: &DefinitionRow| compared_form(&note[range(row[0], row[1])]);
+    let label = |row: &DefinitionRow| note[range(row[0], row[1])].as_bytes();
     let own = &rows[index];
-    let first = rows.iter().position(|row| form(row) == form(own));
+    let equal = |row: &DefinitionRow| second::same_label(label(row), label(own));
+    let first = rows.iter().position(equal);
     let first = first.expect("a row has its own label");
     let hidden = item.get("hidden_by").expect("the key hidden_by");
     if first == index {
@@ -61,14 +62,6 @@ fn compare_hidden(note: &str, item: &Value, index: usize, rows: &[DefinitionRow]
             "{note:?} {key}"
         );
     }
-}
-
-/// "fold A to Z to a to z, trim space, tab and LF, make each inner run of them one space".
-fn compared_form(label: &str) -> String {
-    let words = label
-        .split([' ', '\t', '\n'])
-        .filter(|word| !word.is_empty());
-    words.collect::<Vec<_>>().join(" ").to_ascii_lowercase()
 }
 
 fn compare_spans(note: &str, listed: &Value, rows: &[SpanRow], definitions: &[DefinitionRow]) {

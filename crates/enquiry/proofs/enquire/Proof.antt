@@ -1,10 +1,10 @@
 -- Each `return` is one case of `enquiryOf`.
 use borrow.Author.Needs.{needs}
-use Rattle.enquiry.proofs.Steps.{long-note, bad-note, short-note, refused-label, searched}
+use Rattle.enquiry.proofs.Steps.{long-note, bad-note, refused-label, searched}
 use Rattle.enquiry.proofs.enquire.Statement.{statement}
 use Rattle.enquiry.proofs.enquire.Tie as tie
 
-ruleset ways = (long-note, bad-note, short-note, refused-label, searched, needs)
+ruleset ways = (long-note, bad-note, refused-label, searched, needs)
 
 check-requires : tie.Need-check-requires
 check-requires c κs = search needs

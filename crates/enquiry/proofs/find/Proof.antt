@@ -2,11 +2,11 @@
 use borrow.Author.Needs.{needs}
 use Prim.Native.Nat.{_-_}
 use lib.ListN.{length}
-use Rattle.enquiry.proofs.Search.{Searching, starts, stands, none-equal, small, less, fits, equal, other}
+use Rattle.enquiry.proofs.Search.{Searching, starts, stands, none-equal, label-ordered, label-inside, less, equal, other}
 use Rattle.enquiry.proofs.find.Statement.{statement}
 use Rattle.enquiry.proofs.find.Tie as tie
 
-ruleset turns = (starts, stands, none-equal, small, less, fits, equal, other, needs)
+ruleset turns = (starts, stands, none-equal, label-ordered, label-inside, less, equal, other, needs)
 
 abbrev Inv-definitions : tie.InvT-definitions
 Inv-definitions note label c₀ c = Searching note label c
@@ -26,23 +26,17 @@ enum-known-d c = search turns
 enum-told : tie.Need-enum-told Inv-definitions μ-definitions
 enum-told c = search turns
 
-slice-aggregate-store : tie.Need-slice-aggregate-store Inv-definitions μ-definitions
-slice-aggregate-store c = search turns
+sub-same-label : tie.Need-sub-same-label Inv-definitions μ-definitions
+sub-same-label c = search turns
 
-store-requires : tie.Need-store-requires Inv-definitions μ-definitions
-store-requires c κs = search turns
+part-same-label-start : tie.Need-part-same-label-start Inv-definitions μ-definitions
+part-same-label-start c = search turns
 
-slice-aggregate-lookup : tie.Need-slice-aggregate-lookup Inv-definitions μ-definitions
-slice-aggregate-lookup c = search turns
+part-same-label-end : tie.Need-part-same-label-end Inv-definitions μ-definitions
+part-same-label-end c = search turns
 
-lookup-requires : tie.Need-lookup-requires Inv-definitions μ-definitions
-lookup-requires c κs = search turns
-
-enum-told-2 : tie.Need-enum-told-2 Inv-definitions μ-definitions
-enum-told-2 c = search turns
-
-enum-told-3 : tie.Need-enum-told-3 Inv-definitions μ-definitions
-enum-told-3 c = search turns
+same-label-requires : tie.Need-same-label-requires Inv-definitions μ-definitions
+same-label-requires c κs = search turns
 
 definitions-less : tie.Need-definitions-less Inv-definitions μ-definitions
 definitions-less c = search turns
@@ -66,12 +60,10 @@ find-spec =
     next-definition-requires
     enum-known-d
     enum-told
-    slice-aggregate-store
-    store-requires
-    slice-aggregate-lookup
-    lookup-requires
-    enum-told-2
-    enum-told-3
+    sub-same-label
+    part-same-label-start
+    part-same-label-end
+    same-label-requires
     definitions-less
     definitions-again
     returns

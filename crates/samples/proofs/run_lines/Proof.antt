@@ -32,17 +32,20 @@ show-reading-requires c κs = search needs
 show-rendering-requires : tie.Need-show-rendering-requires
 show-rendering-requires c κs = search needs
 
-sub-show-enquiry : tie.Need-sub-show-enquiry
-sub-show-enquiry c = search needs
+sub-label : tie.Need-sub-label
+sub-label c = search needs
 
-part-show-enquiry-start : tie.Need-part-show-enquiry-start
-part-show-enquiry-start c = search needs
+part-label-start : tie.Need-part-label-start
+part-label-start c = search needs
 
-part-show-enquiry-end : tie.Need-part-show-enquiry-end
-part-show-enquiry-end c = search needs
+part-label-end : tie.Need-part-label-end
+part-label-end c = search needs
 
 show-enquiry-requires : tie.Need-show-enquiry-requires
 show-enquiry-requires c κs = search needs
+
+show-comparison-requires : tie.Need-show-comparison-requires
+show-comparison-requires c κs = search needs
 
 returns-2 : tie.Need-returns-2
 returns-2 c = search needs
@@ -60,8 +63,9 @@ run-lines-spec =
     slice-aggregate-note
     show-reading-requires
     show-rendering-requires
-    sub-show-enquiry
-    part-show-enquiry-start
-    part-show-enquiry-end
+    sub-label
+    part-label-start
+    part-label-end
     show-enquiry-requires
+    show-comparison-requires
     returns-2)

@@ -94,6 +94,15 @@ pub fn resolve(note: &[u8], label: &[u8]) -> Result<Range<usize>, Failure> {
     }
 }
 
+/// Whether two labels are equal.
+pub fn same_label(a: &[u8], b: &[u8]) -> Result<bool, Failure> {
+    match entries::same_label(a, b) {
+        1 => Ok(true),
+        0 => Ok(false),
+        _ => Err(fault("neither yes nor no for two labels")),
+    }
+}
+
 /// Makes the buffer exactly as long as is needed. A need that is met already is the library's fault.
 fn grow<T: Clone + Default>(buffer: &mut Vec<T>, rows: u64, width: usize) -> Result<(), Failure> {
     let memory = || Failure::Fault(Fault::Memory);
@@ -118,7 +127,7 @@ pub fn fault(words: &'static str) -> Failure {
 
 #[cfg(test)]
 mod tests {
-    use super::{grow, page, read, resolve, Failure};
+    use super::{grow, page, read, resolve, same_label, Failure};
     use crate::fault::Fault;
 
     const NOTE: &[u8] = b"[max]: /q2/max \"June\"\n\nUse [max].\n";
@@ -144,6 +153,12 @@ mod tests {
             resolve(NOTE, b"min"),
             Err(Failure::Refused(refusal)) if refusal.number == 7
         ));
+    }
+
+    #[test]
+    fn labels_are_equal_or_not() {
+        assert_eq!(same_label(b"max rate", b" MAX\nrate").ok(), Some(true));
+        assert_eq!(same_label(b"max rate", b"maxrate").ok(), Some(false));
     }
 
     #[test]

@@ -1,7 +1,6 @@
 //! What `notice links` lists: definitions, links and code spans, each with its place and text.
 
 use std::borrow::Cow;
-use std::collections::HashMap;
 use std::ops::Range;
 
 use crate::library::{self, Failure};
@@ -119,25 +118,20 @@ impl<'n> Lister<'n> {
     }
 
     fn definitions(&self) -> Result<Vec<Definition<'n>>, Failure> {
-        // No two definitions share a destination's place, not even where both are empty.
-        let at_destination: HashMap<&Range<usize>, usize> = self
-            .rows
-            .iter()
-            .enumerate()
-            .map(|(index, row)| (&row.destination, index))
-            .collect();
-        self.rows
-            .iter()
-            .enumerate()
-            .map(|(index, row)| {
-                // The enquiry gives the destination of the first definition with an equal label.
-                let found = library::resolve(self.note, &self.note[row.label.clone()])?;
-                let first = *at_destination
-                    .get(&found)
-                    .ok_or_else(|| library::fault("a destination of no definition"))?;
-                Ok(self.definition(row, (first != index).then_some(first)))
-            })
+        let rows = self.rows.iter().enumerate();
+        rows.map(|(index, row)| Ok(self.definition(row, self.hidden_by(index)?)))
             .collect()
+    }
+
+    /// The first definition whose label equals that of a later one.
+    fn hidden_by(&self, later: usize) -> Result<Option<usize>, Failure> {
+        let label = |index: usize| &self.note[self.rows[index].label.clone()];
+        for first in 0..later {
+            if library::same_label(label(first), label(later))? {
+                return Ok(Some(first));
+            }
+        }
+        Ok(None)
     }
 
     fn definition(&self, row: &DefinitionRow, hidden_by: Option<usize>) -> Definition<'n> {

@@ -5,8 +5,9 @@ use super::{Reader, Written, Wrong};
 
 impl Reader {
     /// The compared form that a wrong reading gives a label.
-    pub(in super::super) fn misread_form(self, label: &str) -> Option<String> {
+    pub(in super::super) fn misread_form(self, label: &[u8]) -> Option<String> {
         let wrong = self.wrong?;
+        let label: &str = &String::from_utf8_lossy(label);
         let lower = |word: &str| word.to_ascii_lowercase();
         let trimmed = label.trim_matches(is_space);
         match wrong {

@@ -335,6 +335,22 @@ impl Wrong {
         )
     }
 
+    /// Whether it concerns which labels are equal.
+    pub fn is_of_comparison(self) -> bool {
+        matches!(
+            self,
+            Wrong::NotFolded
+                | Wrong::UnicodeFolded
+                | Wrong::FoldOf(_)
+                | Wrong::NotTrimmed
+                | Wrong::RunsKept
+                | Wrong::RunsDropped
+                | Wrong::NoLabelSpace(_)
+                | Wrong::UnicodeLabelSpace
+                | Wrong::EscapesUndoneInLabels
+        )
+    }
+
     /// How many switches there are, one with a parameter counted once.
     pub fn kinds() -> usize {
         let kind = |wrong: Wrong| std::mem::discriminant(&wrong);

@@ -2,8 +2,8 @@
 use borrow.Author.Needs.{needs}
 use Prim.Native.Nat.{_-_, _≤_}
 use lib.ListN.{length}
-use Rattle.samples.proofs.print.rows.Statement.{statement}
-use Rattle.samples.proofs.print.rows.Tie as tie
+use Rattle.report.proofs.rows.Statement.{statement}
+use Rattle.report.proofs.rows.Tie as tie
 
 abbrev Inv-loop : tie.InvT-loop
 Inv-loop name table width i₀ i = i ≤ length table

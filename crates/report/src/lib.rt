@@ -1,4 +1,4 @@
-// What the program writes. No contract can say what a call of C's writes, so these say only that they are safe and end.
+// What the program `samples` writes. No contract can say what a call of C's writes, so these say only that they are safe and end.
 use libc::STDOUT_FILENO;
 use notice::Reading;
 use notice::answer;
@@ -52,6 +52,15 @@ pub fn enquiry(answer: &[u64; 2]) {
     number(answer[0]);
     number(answer[1]);
     text(b"\n");
+}
+
+// One line: 1 where two labels are equal, else 0.
+pub fn comparison(equal: bool) {
+    if equal {
+        text(b"same 1\n");
+    } else {
+        text(b"same 0\n");
+    }
 }
 
 fn wide(n: u32) -> u64 {

@@ -2,8 +2,8 @@
 use borrow.Author.Needs.{needs}
 use Prim.Native.Nat.{_-_, _≤_}
 use lib.ListN.{length}
-use Rattle.samples.proofs.print.row.Statement.{statement}
-use Rattle.samples.proofs.print.row.Tie as tie
+use Rattle.report.proofs.row.Statement.{statement}
+use Rattle.report.proofs.row.Tie as tie
 
 abbrev Inv-loop : tie.InvT-loop
 Inv-loop name numbers i₀ t4 i = i ≤ length numbers

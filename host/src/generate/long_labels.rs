@@ -1,0 +1,54 @@
+//! Labels of the longest size, each beside one that is equal to it and one that differs in the first
+//! character: what comparing them takes is measured.
+
+use crate::second::LONGEST_LABEL;
+
+/// Three labels: the equal one reads otherwise where it can, and the unequal one differs from the equal
+/// one in its first character that is no blank.
+pub struct LongLabels {
+    pub name: &'static str,
+    pub own: String,
+    pub equal: String,
+    pub unequal: String,
+}
+
+impl LongLabels {
+    fn of(name: &'static str, own: String, equal: String, first: char) -> LongLabels {
+        let text = equal.trim_start_matches([' ', '\t', '\n']);
+        let blanks = &equal[..equal.len() - text.len()];
+        let rest = text.chars().skip(1).collect::<String>();
+        LongLabels {
+            name,
+            unequal: format!("{blanks}{first}{rest}"),
+            own,
+            equal,
+        }
+    }
+}
+
+/// The characters over and over, up to so many of them.
+fn cycled(characters: &str, count: usize) -> String {
+    characters.chars().cycle().take(count).collect()
+}
+
+pub fn all() -> Vec<LongLabels> {
+    let whole = |characters: &str| cycled(characters, LONGEST_LABEL);
+    let both =
+        |name, own: &str, equal: &str, first| LongLabels::of(name, whole(own), whole(equal), first);
+    // So many blanks, and then letters.
+    let led =
+        |count: usize, blanks: &str| cycled(blanks, count) + &cycled("rate", LONGEST_LABEL - count);
+    let blanks = |name, count| LongLabels::of(name, led(count, " "), led(count, "\n \t"), 'x');
+    let trailing = cycled("rate", LONGEST_LABEL - 9) + &cycled("\t ", 9);
+    vec![
+        both("one byte", "a", "a", 'b'),
+        both("two bytes", "\u{e9}", "\u{e9}", '\u{e8}'),
+        both("three bytes", "\u{20ac}", "\u{20ac}", '\u{20ad}'),
+        both("four bytes", "\u{1f600}", "\u{1f600}", '\u{1f601}'),
+        both("case", "RATE", "rate", 'x'),
+        both("words", "max rate ", "Max\nRate\t", 'x'),
+        blanks("7 leading blanks", 7),
+        blanks("40 leading blanks", 40),
+        LongLabels::of("9 blanks, led and trailing", led(9, " "), trailing, 'x'),
+    ]
+}
