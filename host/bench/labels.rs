@@ -3,12 +3,9 @@
 
 use std::process::ExitCode;
 
-use host::generate::long_labels::{self, LongLabels};
+use host::generate::long_labels;
 
-use crate::comparison::times;
-
-/// The most that two unequal labels may take, in times of two equal ones.
-const MOST: f64 = 0.1;
+use crate::comparison::{Times, MOST};
 
 /// Prints a line for each kind of label, and fails where an early difference is not told early.
 pub fn run() -> ExitCode {
@@ -19,11 +16,14 @@ pub fn run() -> ExitCode {
     println!("|---|--:|--:|--:|--:|--:|");
     let mut good = true;
     for labels in long_labels::all() {
-        let [equal, unequal, turned] = times(&labels);
-        let ratio = unequal.max(turned) / equal;
-        let LongLabels { name, own, .. } = &labels;
-        let bytes = own.len();
-        println!("| {name} | {bytes} | {equal:.1} | {unequal:.1} | {turned:.1} | {ratio:.3} |");
+        let times = Times::of(&labels);
+        let ratio = times.ratio();
+        println!(
+            "| {} | {} | {} | {ratio:.3} |",
+            labels.name,
+            labels.own.len(),
+            times.shown().join(" | ")
+        );
         good &= ratio <= MOST;
     }
     if good {

@@ -10,10 +10,7 @@ use host::entries;
 use host::generate::long_labels::{self, LongLabels};
 use host::second::{self, LONGEST_LABEL};
 
-use comparison::times;
-
-/// Two unequal labels take at most one part in so many of the time of two equal ones.
-const PARTS: f64 = 10.0;
+use comparison::{Times, MOST};
 
 /// The labels are what they are said to be.
 fn check(labels: &LongLabels) {
@@ -39,10 +36,9 @@ fn check(labels: &LongLabels) {
 fn unequal_labels_take_a_tenth_of_the_time_of_equal_ones() {
     for labels in long_labels::all() {
         check(&labels);
-        let [equal, unequal, turned] = times(&labels);
-        let name = labels.name;
-        println!("{name}: equal {equal:.1} ns, unequal {unequal:.1} and {turned:.1} ns");
-        assert!(unequal * PARTS <= equal, "{name}: {unequal} and {equal} ns");
-        assert!(turned * PARTS <= equal, "{name}: {turned} and {equal} ns");
+        let times = Times::of(&labels);
+        let line = format!("{}: {} ns", labels.name, times.shown().join(", "));
+        println!("{line}");
+        assert!(times.ratio() <= MOST, "{line}");
     }
 }
