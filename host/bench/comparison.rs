@@ -1,14 +1,21 @@
 //! The comparison of two labels, timed.
 
 use std::hint::black_box;
+use std::time::Duration;
 
 use host::entries;
 use host::generate::long_labels::LongLabels;
 
-use crate::measure::{best_times, Candidate};
+use crate::measure::{best_times, Candidate, Rounds};
 
 /// The most that two labels that differ in the first character may take, in times of two equal ones.
 pub const MOST: f64 = 0.1;
+
+/// Short batches, and many: on a busy machine some of them are not disturbed.
+const ROUNDS: Rounds = Rounds {
+    batch: Duration::from_micros(100),
+    most: 300,
+};
 
 /// The best times in nanoseconds: of two equal labels, of two unequal ones, and of these the other way
 /// round.
@@ -34,7 +41,7 @@ impl Times {
             }))
         });
         let [equal, unequal, turned] =
-            best_times(&mut candidates).map(|time| time.unwrap_or(f64::INFINITY));
+            best_times(&mut candidates, ROUNDS).map(|time| time.unwrap_or(f64::INFINITY));
         Times {
             equal,
             unequal,

@@ -7,6 +7,7 @@ use host::second::LONGEST_NOTE;
 
 use crate::measure::{best_times, Candidate};
 use crate::ours::Lent;
+use crate::ROUNDS;
 
 /// What a note of twice the size may take, in times of the other.
 const MOST: f64 = 2.2;
@@ -79,5 +80,5 @@ fn times<T>(
         Some(Candidate::new(|| call(&mut second, &notes[1].bytes))),
         Some(Candidate::new(|| call(&mut third, &notes[2].bytes))),
     ];
-    best_times(&mut candidates).map(|time| time.unwrap_or(f64::INFINITY))
+    best_times(&mut candidates, ROUNDS).map(|time| time.unwrap_or(f64::INFINITY))
 }

@@ -13,12 +13,19 @@ mod ours;
 mod table;
 
 use std::process::ExitCode;
+use std::time::Duration;
 
 use host::generate::bench_notes::{self, BenchNote};
 use libraries::{CmarkGfm, Md4c};
-use measure::{best_times, Candidate};
+use measure::{best_times, Candidate, Rounds};
 use ours::Lent;
 use table::Line;
+
+/// How a note is timed.
+const ROUNDS: Rounds = Rounds {
+    batch: Duration::from_millis(4),
+    most: 25,
+};
 
 fn main() -> ExitCode {
     let mut names: Vec<String> = std::env::args().skip(1).collect();
@@ -70,7 +77,7 @@ fn time(
         cmark_gfm.map(|library| Candidate::new(|| library.page(bytes))),
         md4c.map(|library| Candidate::new(|| library.page(bytes))),
     ];
-    let [reader, page_writer, second, cmark_gfm, md4c] = best_times(&mut candidates);
+    let [reader, page_writer, second, cmark_gfm, md4c] = best_times(&mut candidates, ROUNDS);
     Line {
         name: note.name,
         bytes: bytes.len(),

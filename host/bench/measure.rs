@@ -3,10 +3,15 @@
 use std::hint::black_box;
 use std::time::{Duration, Instant};
 
-/// A batch of calls lasts at least this long, so that the clock's own time does not count.
-const BATCH: Duration = Duration::from_millis(4);
-/// How many rounds there are; fewer, down to the least, once they have taken this long.
-const MOST_ROUNDS: usize = 25;
+/// How things are timed.
+#[derive(Clone, Copy)]
+pub struct Rounds {
+    /// A batch of calls lasts at least this long, so that the clock's own time does not count.
+    pub batch: Duration,
+    /// How many rounds there are; fewer, down to the least, once they have taken too long.
+    pub most: usize,
+}
+
 const LEAST_ROUNDS: usize = 5;
 const LONGEST: Duration = Duration::from_secs(3);
 
@@ -39,8 +44,8 @@ impl<'c> Candidate<'c> {
     }
 
     /// Doubles the batch until it lasts long enough; this warms everything up too.
-    fn settle_batch(&mut self) {
-        while self.batch_time() < BATCH {
+    fn settle_batch(&mut self, batch: Duration) {
+        while self.batch_time() < batch {
             self.batch *= 2;
         }
     }
@@ -55,12 +60,13 @@ impl<'c> Candidate<'c> {
 /// what slows the machine for a while slows all alike.
 pub fn best_times<const COUNT: usize>(
     candidates: &mut [Option<Candidate>; COUNT],
+    rounds: Rounds,
 ) -> [Option<f64>; COUNT] {
     for candidate in candidates.iter_mut().flatten() {
-        candidate.settle_batch();
+        candidate.settle_batch(rounds.batch);
     }
     let start = Instant::now();
-    for round in 0..MOST_ROUNDS {
+    for round in 0..rounds.most {
         if round >= LEAST_ROUNDS && start.elapsed() > LONGEST {
             break;
         }

@@ -6,7 +6,7 @@
 extern crate host as package;
 extern crate self as host;
 
-pub use package::sources;
+pub use package::{cases, sources};
 
 /// The library in the second reader's form.
 pub mod second {

@@ -9,7 +9,7 @@ use std::ptr::null_mut;
 
 use host::entries;
 use host::generate::bench_notes;
-use host::second::{DEFINITION_ROW_WIDTH, LONGEST_NOTE, SPAN_ROW_WIDTH};
+use host::second::{DEFINITION_ROW_WIDTH, LONGEST_LABEL, LONGEST_NOTE, SPAN_ROW_WIDTH};
 
 /// What `include/notice.h` promises for a call.
 const PROMISED: usize = 40 * 1024;
@@ -108,6 +108,11 @@ fn a_call_keeps_to_the_promised_stack() {
     );
     assert!(
         most.iter().all(|bytes| (1..PROMISED).contains(bytes)),
+        "{most:?}"
+    );
+    // No form of a label is built: there is no room for the longest.
+    assert!(
+        most[2..].iter().all(|bytes| *bytes < LONGEST_LABEL),
         "{most:?}"
     );
 }

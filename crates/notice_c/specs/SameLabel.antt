@@ -14,6 +14,7 @@ numberOf equal = cond equal 1 0
 -- The call returns `number` and leaves a′ and b′.
 pub record SameLabelPromise (a b : List ℕ) (number : ℕ) (a′ b′ : List ℕ) : Type 0 where
   pub answered : number ≡ numberOf (matches a b)
+  -- by the law: "Equal labels: ..; then the bytes agree. Escapes are not undone."
   pub equal : (number ≡ 1) ↔ Equal a b
   pub unequal : (number ≡ 0) ↔ (Equal a b → ⊥)
   pub a-kept : a′ ≡ a

@@ -4,10 +4,9 @@ use super::Case;
 use crate::second::LONGEST_LABEL;
 
 pub fn cases() -> Vec<Case> {
-    let [equal, unequal] = [EQUAL, UNEQUAL].map(<[_]>::iter);
-    let pairs = equal.map(|pair| ("equal", pair));
-    let pairs = pairs.chain(unequal.map(|pair| ("unequal", pair)));
-    let mut cases: Vec<Case> = pairs.map(|(name, (a, b))| pair(name, a, b)).collect();
+    let equal = EQUAL.iter().map(|(a, b)| pair("equal labels", a, b));
+    let unequal = UNEQUAL.iter().map(|(a, b)| pair("unequal labels", a, b));
+    let mut cases: Vec<Case> = equal.chain(unequal).collect();
     cases.extend(bytes());
     cases.extend(long_labels());
     cases
@@ -15,12 +14,16 @@ pub fn cases() -> Vec<Case> {
 
 fn pair(name: &str, a: &[u8], b: &[u8]) -> Case {
     let [one, other] = [a, b].map(<[u8]>::escape_ascii);
-    Case::of(format!("{name} labels, \"{one}\" and \"{other}\""), a).asking(b)
+    Case::of(format!("{name}, \"{one}\" and \"{other}\""), a).asking(b)
 }
 
-const EQUAL: &[(&[u8], &[u8])] = &[
+/// Labels that are equal by document 01, as a person reads it.
+pub const EQUAL: &[(&[u8], &[u8])] = &[
     (b"max rate", b"max rate"),
     (b"Max Rate", b"mAX rATE"),
+    (b"ABCDEFGHIJKLMNOPQRSTUVWXYZ", b"abcdefghijklmnopqrstuvwxyz"),
+    (b"max rate", b" max rate"),
+    (b"max rate", b"max rate\n"),
     (b"max rate", b"\n\tmax \t\n rate "),
     (b"max\nrate", b"max\trate"),
     (b" ", b"\t\n"),
@@ -34,19 +37,26 @@ const EQUAL: &[(&[u8], &[u8])] = &[
     (b"\xc3\n\xff", b"\xc3 \xff\n"),
 ];
 
-const UNEQUAL: &[(&[u8], &[u8])] = &[
+/// Labels that are not.
+pub const UNEQUAL: &[(&[u8], &[u8])] = &[
     (b"max", b"min"),
+    (b"max", b"mix"),
+    (b"max", b"may"),
     (b"max", b"max rate"),
     (b"max rate", b"max"),
     (b"max rate", b"maxrate"),
     (b"maxrate", b"max rate"),
+    (b"max rate", b"rate max"),
     (b"max rates", b"max rate s"),
     (b"rate", b""),
     (b"", b"rate"),
     (b" ", b"rate"),
+    (b"[", b"{"),
+    (b"@", b"`"),
     (b"a\\!", b"a!"),
     (b"a!", b"a\\!"),
     (b"a\\ b", b"a b"),
+    // No blanks: line tabulation, form feed, carriage return, byte 0, no-break space.
     (b"a\x0bb", b"a b"),
     (b"a \x0c b", b"a b"),
     (b"a\r", b"a"),
@@ -58,8 +68,9 @@ const UNEQUAL: &[(&[u8], &[u8])] = &[
 
 /// Each byte beside the one that folding would make of it, and each blank between two words.
 fn bytes() -> Vec<Case> {
-    let folded = (b'?'..=b'\\').map(|byte| pair("folding", &[byte], &[byte + 32]));
-    let blank = |byte| pair("a blank or not", &[b'a', byte, b'b'], b"a b");
+    let folded =
+        (b'?'..=b'\\').map(|byte| pair("a byte and what it might fold to", &[byte], &[byte + 32]));
+    let blank = |byte| pair("a blank or none", &[b'a', byte, b'b'], b"a b");
     folded
         .chain([9, 10, 11, 12, 13, 28, 31, 32].map(blank))
         .collect()

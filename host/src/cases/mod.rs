@@ -8,7 +8,7 @@ mod characters;
 mod definitions;
 mod enquiries;
 mod expected;
-mod labels;
+pub mod labels;
 mod lending;
 mod limits;
 mod links;

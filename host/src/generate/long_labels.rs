@@ -1,10 +1,10 @@
-//! Labels of the longest size, each beside one that is equal to it and one that differs in the first
+//! Labels of the longest size, each beside one that is equal to it and one that differs in a single
 //! character: what comparing them takes is measured.
 
 use crate::second::LONGEST_LABEL;
 
 /// Three labels: the equal one reads otherwise where it can, and the unequal one differs from the equal
-/// one in its first character that is no blank.
+/// one in one character.
 pub struct LongLabels {
     pub name: &'static str,
     pub own: String,
@@ -13,13 +13,14 @@ pub struct LongLabels {
 }
 
 impl LongLabels {
-    fn of(name: &'static str, own: String, equal: String, first: char) -> LongLabels {
-        let text = equal.trim_start_matches([' ', '\t', '\n']);
-        let blanks = &equal[..equal.len() - text.len()];
-        let rest = text.chars().skip(1).collect::<String>();
+    /// The character at `place` is another in the unequal label.
+    fn of(name: &'static str, own: String, equal: String, place: usize, other: char) -> LongLabels {
+        let characters = equal.chars().enumerate();
         LongLabels {
             name,
-            unequal: format!("{blanks}{first}{rest}"),
+            unequal: characters
+                .map(|(at, own)| if at == place { other } else { own })
+                .collect(),
             own,
             equal,
         }
@@ -31,14 +32,17 @@ fn cycled(characters: &str, count: usize) -> String {
     characters.chars().cycle().take(count).collect()
 }
 
+/// Labels of each kind. The unequal one differs in the first character that is no blank.
 pub fn all() -> Vec<LongLabels> {
     let whole = |characters: &str| cycled(characters, LONGEST_LABEL);
-    let both =
-        |name, own: &str, equal: &str, first| LongLabels::of(name, whole(own), whole(equal), first);
+    let both = |name, own: &str, equal: &str, other| {
+        LongLabels::of(name, whole(own), whole(equal), 0, other)
+    };
     // So many blanks, and then letters.
     let led =
         |count: usize, blanks: &str| cycled(blanks, count) + &cycled("rate", LONGEST_LABEL - count);
-    let blanks = |name, count| LongLabels::of(name, led(count, " "), led(count, "\n \t"), 'x');
+    let blanks =
+        |name, count| LongLabels::of(name, led(count, " "), led(count, "\n \t"), count, 'x');
     let trailing = cycled("rate", LONGEST_LABEL - 9) + &cycled("\t ", 9);
     vec![
         both("one byte", "a", "a", 'b'),
@@ -49,6 +53,13 @@ pub fn all() -> Vec<LongLabels> {
         both("words", "max rate ", "Max\nRate\t", 'x'),
         blanks("7 leading blanks", 7),
         blanks("40 leading blanks", 40),
-        LongLabels::of("9 blanks, led and trailing", led(9, " "), trailing, 'x'),
+        blanks("100 leading blanks", 100),
+        LongLabels::of("9 blanks, led and trailing", led(9, " "), trailing, 0, 'x'),
     ]
+}
+
+/// Labels of letters. The unequal one differs at `place`.
+pub fn differing_at(place: usize) -> LongLabels {
+    let [own, equal] = [(); 2].map(|()| cycled("rate", LONGEST_LABEL));
+    LongLabels::of("letters", own, equal, place, 'x')
 }

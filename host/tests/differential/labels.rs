@@ -66,9 +66,11 @@ fn every_two_bytes() {
 fn any_label(chance: &mut Chance) -> Vec<u8> {
     const BYTES: &[u8] = b"aAzZ@[`{ \t\n\x0b\x0c\x1f\x20\x21\\\0\r\x7f\x80\xc3\xa9\xe0\xff";
     let length = chance.below(40);
-    let byte = |_| match chance.once_in(8) {
-        true => chance.below(256) as u8,
-        false => chance.one_of(BYTES),
+    let byte = |_| {
+        if chance.once_in(8) {
+            return chance.below(256) as u8;
+        }
+        chance.one_of(BYTES)
     };
     (0..length).map(byte).collect()
 }
@@ -105,9 +107,10 @@ fn labels_by_chance() {
     for index in 0..random::notes() {
         let chance = &mut random::chance(index);
         let one = any_label(chance);
-        let other = match chance.once_in(4) {
-            true => any_label(chance),
-            false => made_of(&one, chance),
+        let other = if chance.once_in(4) {
+            any_label(chance)
+        } else {
+            made_of(&one, chance)
         };
         numbers[usize::from(equal(&one, &other))] += 1;
     }
