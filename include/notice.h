@@ -38,22 +38,22 @@
  *
  * Cost
  *
- * Stack: a call takes less than 40 KiB for itself, whatever the note (38,304 bytes at most, 384 for notice_resolve, 88 for
+ * Stack: a call takes less than 44 KiB for itself, whatever the note (41,936 bytes at most, 384 for notice_resolve, 88 for
  * notice_same_label). It was measured on the notes of the benchmark by running each entry on a stack that was marked before; the
  * library's tests do so again.
  *
  * Time: but for one thing, reading costs what the note's length costs, and the page its own length besides. It was measured on a
- * virtual core of an Intel Xeon (x86-64), with 222,913 notes of the longest size, made of short words to be slow: repeated, one after
- * the other, around a text as deep as brackets may go, and in rising runs. The slowest took 45 ns a byte, 1.5 ms, and the slowest
- * enquiry, for a label of 990 blanks, 48 ns a byte of the note. The search counts 150 ns a byte, 5 ms for the longest note, as the
+ * virtual core of an AMD EPYC (x86-64), with 222,913 notes of the longest size, made of short words to be slow: repeated, one after
+ * the other, around a text as deep as brackets may go, and in rising runs. The slowest took 50 ns a byte, 1.6 ms, and the slowest
+ * enquiry, for a label of 990 blanks, 41 ns a byte of the note. The search counts 150 ns a byte, 5 ms for the longest note, as the
  * most that a call may take.
  *
  * What costs more is lookup, since each reference is looked up among the definitions one by one. 500 definitions and as many references
  * to them as fit took 9 ms; of notes made to be slow, some 1,600 definitions and 1,500 references whose labels differ only at their
  * ends, and in the case of their letters, took 66 ms on one machine and up to 240 ms on a slower one, the longest that was found.
  *
- * A comparison of two labels costs what they have in common: labels of 999 characters took 3 to 8 ns where they differ in the first,
- * and 0.6 to 3.2 us where they are equal.
+ * A comparison of two labels costs what they have in common: labels of 999 characters took 5 to 8 ns where they differ in the first,
+ * and 0.5 to 3.2 us where they are equal.
  *
  *
  * Answers
@@ -86,7 +86,7 @@ extern "C" {
 
 /* The most bytes that a note may have, and the most brackets that may be open at once in a paragraph. */
 #define NOTICE_LIMIT 32768
-#define NOTICE_DEPTH 64
+#define NOTICE_DEPTH 1024
 
 /* The numbers of an answer. */
 #define NOTICE_OK 0

@@ -2,7 +2,7 @@
 //! and, where they are installed, cmark-gfm and md4c. `docs/BENCHMARK.md` says what is measured.
 //!
 //! `cargo run --release --offline --manifest-path host/Cargo.toml --bin bench -- [--growth] [NOTE...]`
-//! `cargo run --release --offline --manifest-path host/Cargo.toml --bin bench -- --labels`
+//! `cargo run --release --offline --manifest-path host/Cargo.toml --bin bench -- --labels | --paragraphs`
 
 mod comparison;
 mod growth;
@@ -10,6 +10,7 @@ mod labels;
 mod libraries;
 mod measure;
 mod ours;
+mod paragraphs;
 mod table;
 
 use std::process::ExitCode;
@@ -31,6 +32,9 @@ fn main() -> ExitCode {
     let mut names: Vec<String> = std::env::args().skip(1).collect();
     if names == ["--labels"] {
         return labels::run();
+    }
+    if names == ["--paragraphs"] {
+        return paragraphs::run();
     }
     let growth = names.first().is_some_and(|word| word == "--growth");
     if growth {

@@ -123,10 +123,10 @@ static void read_cases(const uint8_t *example, size_t size) {
     read_case("the longest note", room, NOTICE_LIMIT, 0, 0, NOTICE_OK, 0, 0, 0, 0, 0);
     read_case("a note too long", room, sizeof room, 6, 10, NOTICE_TOO_LONG, sizeof room, 0, 0, 0, 0);
     memset(room, '[', sizeof room);
-    read_case("64 brackets", room, NOTICE_DEPTH, 0, 0, NOTICE_OK, 0, 0, 0, 0, 0);
-    read_case("65 brackets", room, NOTICE_DEPTH + 1, 6, 10, NOTICE_TOO_DEEP, NOTICE_DEPTH, 0, 0, 0, 0);
+    read_case("1,024 brackets", room, NOTICE_DEPTH, 0, 0, NOTICE_OK, 0, 0, 0, 0, 0);
+    read_case("1,025 brackets", room, NOTICE_DEPTH + 1, 6, 10, NOTICE_TOO_DEEP, NOTICE_DEPTH, 0, 0, 0, 0);
     memcpy(room, example, size);
-    read_case("a definition, and 65 brackets", room, size + NOTICE_DEPTH + 1, 6, 10, NOTICE_TOO_DEEP, size + NOTICE_DEPTH, 0, 0, 1, 0);
+    read_case("a definition, and 1,025 brackets", room, size + NOTICE_DEPTH + 1, 6, 10, NOTICE_TOO_DEEP, size + NOTICE_DEPTH, 0, 0, 1, 0);
 }
 
 static void render_cases(const uint8_t *example, size_t size) {
@@ -144,7 +144,7 @@ static void render_cases(const uint8_t *example, size_t size) {
     render_case("a page, bad text", bad, sizeof bad, 6, 10, PAGE, NOTICE_BAD_TEXT, 1, none, 0, 0, 0);
     memset(room, '[', sizeof room);
     render_case("a page, a note too long", room, sizeof room, 6, 10, PAGE, NOTICE_TOO_LONG, sizeof room, none, 0, 0, 0);
-    render_case("a page, 65 brackets", room, NOTICE_DEPTH + 1, 6, 10, PAGE, NOTICE_TOO_DEEP, NOTICE_DEPTH, none, 0, 0, 0);
+    render_case("a page, 1,025 brackets", room, NOTICE_DEPTH + 1, 6, 10, PAGE, NOTICE_TOO_DEEP, NOTICE_DEPTH, none, 0, 0, 0);
 }
 
 static void resolve_cases(const uint8_t *example, size_t size) {

@@ -38,11 +38,11 @@ fn the_page_alone() {
 #[test]
 fn refusals() {
     assert_eq!(rows(&[], b"ab\r"), ("refusal 2 2\n".to_string(), Some(1)));
-    let deep = format!("[a]: b\n\n{}", "[".repeat(65));
+    let deep = format!("[a]: b\n\n{}", "[".repeat(1_025));
     assert_eq!(
         rows(&[], deep.as_bytes()),
         (
-            "definition 1 2 5 6 0 0\nrefusal 4 72\n".to_string(),
+            "definition 1 2 5 6 0 0\nrefusal 4 1032\n".to_string(),
             Some(1)
         )
     );

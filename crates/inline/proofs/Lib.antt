@@ -1,4 +1,5 @@
 pub mod Turns
+pub mod Pieces
 pub mod PieceBounds
 pub mod TailBounds
 pub mod Plain

@@ -18,4 +18,5 @@ pub mod Bracket
 -- demand 3
 pub mod Demand3
 -- the samples by the law
+pub mod Openings
 pub mod Samples

@@ -16,9 +16,9 @@ use Rattle.inline.specs.Tails.{Tail}
 use Rattle.inline.specs.Paragraph.{rules}
 use Rattle.inline.specs.Rows.{RowIs, RowsAre, EndsIncrease}
 
--- "some paragraph has over 64 brackets open at once"
+-- "some paragraph has over 64 brackets open at once", and document 02, request 4: "Raise refusal 4 from 64 to 1,024"
 abbrev pub depthLimit : ℕ
-depthLimit = 64
+depthLimit = 1024
 
 -- ---- markings
 -- "A marking meets the conditions exactly when everything in this section holds of it": m, of the paragraph q of a note whose definitions are ds
@@ -80,7 +80,7 @@ pub record FirstDeepIn (ps : List Placed) (ms : List (Marking Tail)) (place : �
   pub place-is : paragraph .at + within ≡ place
   pub none-before : (k : ℕ) (m : Marking Tail) → k < index → getElem? ms k ≡ some m → NeverOver depthLimit m
 
--- "some paragraph has over 64 brackets open at once", and the "place of the first bracket too many"
+-- some paragraph has over `depthLimit` brackets open at once, and the "place of the first bracket too many"
 pub record FirstDeep (s : List ℕ) (place : ℕ) : Type 0 where
   pub marked : Marked s
   pub first : FirstDeepIn (marked .paragraphs) (marked .markings) place

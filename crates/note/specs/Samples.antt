@@ -1,5 +1,5 @@
 -- "Samples on the bench": the notes P1 to P13 of document 01 with their definition rows and their span rows; beside them its whole example, and
--- notes with 64 and 65 brackets open.
+-- notes with 1,024 and 1,025 brackets open.
 use Prim.Native.Nat.{ℕ}
 use Prim.Native.String.{String}
 use mathlib.Core.Path.{_≡_, refl}
@@ -15,6 +15,8 @@ use Rattle.matching.specs.Form.{fold}
 use Rattle.matching.specs.Reading.{spaced, formOf, compared, equals, matches}
 use Rattle.marking.specs.ReadingSpans.{spans, finish, scan, scanStep, scanFound, scanStart, over, overs, overWithin}
 use Rattle.block.specs.Reading.{blankLine, lineLength, blockRest, blockLength, partLength, blockHere, blocks}
+use Rattle.block.specs.Block.{Placed}
+use Rattle.row.specs.declared.Definition.{Definition}
 use Rattle.row.specs.Row.{numbers}
 use Rattle.row.specs.Reading.{matchFrom}
 use Rattle.definition.specs.Reading as definition
@@ -66,17 +68,39 @@ whole-example = sample "[max]: /q2/max \"June\"\n\nUse [max].\n" (six 1 4 7 14 1
 abbrev pub readOne : Sample → Sample
 readOne x = sample (x .note) (map numbers (definitions (ascii (x .note)))) (spanRows (ascii (x .note)))
 
-abbrev brackets : ℕ → List ℕ
+abbrev pub brackets : ℕ → List ℕ
 brackets n = replicate n 91
+
+-- a paragraph of so many opening brackets
+abbrev pub openings : ℕ → ℕ → Placed
+openings at n = record { at = at; bytes = brackets n }
+
+-- two paragraphs of them
+abbrev pub two : ℕ → ℕ → List ℕ
+two n m = brackets n ++ 10 ∷ 10 ∷ brackets m
+
+abbrev pub partsOf : List ℕ → List Definition × List Placed
+partsOf s = (definitions s, paragraphs s)
 
 pub record Holds : Type 0 where
   pub bench : map readOne samples ≡ samples
   pub example : readOne whole-example ≡ whole-example
-  pub shallow : firstDeep (brackets 64) ≡ none
-  pub deep : firstDeep (brackets 65) ≡ some 64
+  -- "A formulary import has lists in square brackets 70 deep."
+  pub seventy : firstDeep (brackets 70 ++ replicate 70 93) ≡ none
+  pub parts-1024 : partsOf (brackets 1024) ≡ ([], openings 0 1024 ∷ [])
+  pub parts-1025 : partsOf (brackets 1025) ≡ ([], openings 0 1025 ∷ [])
+  pub parts-two : partsOf (two 1024 1024) ≡ ([], openings 0 1024 ∷ openings 1026 1024 ∷ [])
+  pub parts-later : partsOf (two 5 1025) ≡ ([], openings 0 5 ∷ openings 7 1025 ∷ [])
+
+-- As many brackets open as may be, and one more. A scan of so many pieces costs too much to be computed: what is read of opening brackets alone
+-- is known for every number of them.
+pub record Edges : Type 0 where
+  pub shallow : firstDeep (brackets 1024) ≡ none
+  pub deep : firstDeep (brackets 1025) ≡ some 1024
   -- "Each paragraph starts afresh", and places count from the note's start
-  pub afresh : firstDeep (brackets 40 ++ 10 ∷ 10 ∷ brackets 40) ≡ none
-  pub deep-later : firstDeep (97 ∷ 10 ∷ 10 ∷ brackets 65) ≡ some 67
+  pub afresh : firstDeep (two 1024 1024) ≡ none
+  pub deep-later : firstDeep (two 5 1025) ≡ some 1031
+  pub no-span : spanRows (brackets 1024) ≡ []
 
 pub holds : Holds
 unfolding scanBytes run past leap closingStep closing onesFrom leadingOnes sequenceLength characters inky fitsAfter fits labelEnd unclosed isLabel
@@ -85,4 +109,4 @@ unfolding scanBytes run past leap closingStep closing onesFrom leadingOnes seque
     definition.lineAfter definition.titleAfter definition.endingAfter definition.afterLabel definition.afterIndent definition.definitionAt definition.takingFrom definition.definitionsFrom
     definition.paragraphEnd definition.paragraphFrom definition.definitionsOf definition.paragraphOf definition.definitionsIn definition.paragraphsIn definitions paragraphs
     countAfter runStep runDone closingRun pieceFrom closedAt afterDestination inlineOf labelAfter textTail tailOf labels rowsIn spanRows deepIn firstDeep
-holds = record { bench = refl; example = refl; shallow = refl; deep = refl; afresh = refl; deep-later = refl }
+holds = record { bench = refl; example = refl; seventy = refl; parts-1024 = refl; parts-1025 = refl; parts-two = refl; parts-later = refl }

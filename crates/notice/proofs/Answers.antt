@@ -43,7 +43,7 @@ module _ (s : List ℕ) where
   pub span-count : {count : ℕ} → SpansCounted s count → length (spanRows s) ≡ count
   span-count c = ap length (each-row-iff s (c .rows) .1 (c .each-once)) ∙ c .counted
 
-  -- "some paragraph has over 64 brackets open at once"
+  -- some paragraph has over `depthLimit` brackets open at once
   pub some-deep : {place : ℕ} → FirstDeep s place → SomeDeep s
   some-deep f = record {
     marked = f .marked;

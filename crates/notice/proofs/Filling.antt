@@ -12,7 +12,7 @@ use Rattle.span.specs.Row.{numbers, wholeRows, filled}
 use Rattle.span.proofs.Filled.{store-next}
 use Rattle.inline.specs.Tails.{Tail}
 use Rattle.inline.specs.ReadingRows.{rowFor, spanRow}
-use Rattle.paragraph.specs.Reading.{storedAll}
+use Rattle.step.specs.Reading.{storedAll}
 use Rattle.notice.specs.Reading.{spansFilled}
 use Rattle.notice.specs.Claims.{spanNumbers}
 

@@ -8,3 +8,4 @@ pub mod Filling
 pub mod Turns
 pub mod Returns
 pub mod Standing
+pub mod Samples

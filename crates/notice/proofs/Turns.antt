@@ -28,7 +28,7 @@ use Rattle.paragraph.specs.declared.Tally.{Tally}
 use Rattle.paragraph.specs.declared.Tally.the-variants.{Deep, Spans}
 use Rattle.paragraph.specs.Tally.{numberOf, tallyOf}
 use Rattle.tail.specs.Ending.{labelsIn}
-use Rattle.paragraph.specs.Reading.{rowsFor}
+use Rattle.step.specs.Reading.{rowsFor}
 use Rattle.note.specs.Note.{depthLimit}
 use Rattle.paragraph.specs.Promise.{Lies, Reads}
 use Rattle.notice.specs.Spans.{Defined, NoteMarked}

@@ -77,7 +77,7 @@ pub record Enough (lent : ℕ) (Counted : ℕ → Type 0) : Type 0 where
   pub counted : Counted needed
   pub enough : needed ≤ lent
 
--- 4: "some paragraph has over 64 brackets open at once"
+-- 4: some paragraph has over `depthLimit` brackets open at once
 pub record SomeDeep (s : List ℕ) : Type 0 where
   pub marked : Marked s
   pub index : ℕ

@@ -1,12 +1,14 @@
 -- The reader's answers by computation, with what both tables hold before and after: the whole example of document 01, each refusal, and their order.
 use Prim.Native.Nat.{ℕ}
 use mathlib.Core.Path.{_≡_, refl}
+use mathlib.Core.Option.{none}
 use mathlib.Core.List.{List, [], _∷_, _++_, map}
 use lib.ListN.{replicate}
 use Rattle.scan.specs.Ascii.{ascii}
 use Rattle.scan.specs.Reading.{scan as scanBytes, run, past, leap, closingStep, closing}
 use Rattle.text.specs.Utf8.{table}
 use Rattle.text.specs.Sequences.{onesFrom, leadingOnes, sequenceLength, characters}
+use Rattle.text.specs.declared.Checked.the-variants.{Good}
 use Rattle.text.specs.Reading.{rowFor, starts, characterLength, goodLength, firstBadPast, firstBad, checkOf}
 use Rattle.label.specs.Reading.{inky, fitsAfter, fits, labelEnd, unclosed, isLabel}
 use Rattle.target.specs.Reading.{spaceFrom, depthAfter, rawStep, rawRun, judged, destinationOf, closer, titleOf}
@@ -16,12 +18,16 @@ use Rattle.marking.specs.ReadingSpans.{spans, finish, scan, scanStep, scanFound
 use Rattle.block.specs.Reading.{blankLine, lineLength, blockRest, blockLength, partLength, blockHere, blocks}
 use Rattle.rows.specs.Rows.{rows, filled}
 use Rattle.row.specs.Row as definitionTable
+use Rattle.row.specs.Row.{range, absent, definition}
 use Rattle.row.specs.Reading.{matchFrom}
-use Rattle.definition.specs.Reading as definition
+use Rattle.definition.specs.Reading as reading
 use Rattle.definition.specs.Reading.{definitions, paragraphs}
 use Rattle.span.specs.Row as spanTable
 use Rattle.inline.specs.ReadingPieces.{countAfter, runStep, runDone, closingRun, pieceFrom}
+use Rattle.inline.specs.Reading.{grammar}
 use Rattle.inline.specs.ReadingTails.{closedAt, afterDestination, inlineOf, labelAfter, textTail, tailOf}
+use Rattle.note.specs.Note.{depthLimit}
+use Rattle.note.specs.Samples.{brackets, openings, partsOf}
 use Rattle.note.specs.Reading.{labels, rowsIn, spanRows, deepIn, firstDeep}
 use Rattle.notice.specs.declared.Reading.{Reading}
 use Rattle.notice.specs.declared.Reading.the-variants.{Read, Long, Bad, FewDefinitions, Deep, FewSpans}
@@ -38,7 +44,7 @@ pub record Sample : Type 0 where
   pub definitions-left : List ℕ
   pub spans-left : List ℕ
 
-abbrev sample : List ℕ → List ℕ → List ℕ → Reading → List ℕ → List ℕ → Sample
+abbrev pub sample : List ℕ → List ℕ → List ℕ → Reading → List ℕ → List ℕ → Sample
 sample s t u r t′ u′ = record { note = s; definitions-lent = t; spans-lent = u; answer = r; definitions-left = t′; spans-left = u′ }
 
 -- both tables are left as they were
@@ -46,7 +52,7 @@ abbrev unchanged : List ℕ → List ℕ → List ℕ → Reading → Sample
 unchanged s t u r = sample s t u r t u
 
 -- a table of so many numbers, before the call
-abbrev lent : ℕ → List ℕ
+abbrev pub lent : ℕ → List ℕ
 lent n = replicate n 9
 
 -- "Whole example, 34 bytes"
@@ -60,9 +66,9 @@ definition-row = 1 ∷ 4 ∷ 7 ∷ 14 ∷ 16 ∷ 20 ∷ []
 abbrev span-row : List ℕ
 span-row = 5 ∷ 27 ∷ 32 ∷ 28 ∷ 31 ∷ 1 ∷ 7 ∷ 14 ∷ 16 ∷ 20 ∷ []
 
--- a definition, and a paragraph with too many brackets open
-abbrev deep : List ℕ
-deep = ascii "[a]: b\n\n`c`" ++ replicate 65 91
+-- a definition, a paragraph with a code span, and one with too many brackets open
+abbrev pub deep : List ℕ
+deep = ascii "[a]: b\n\n`c`\n\n" ++ brackets 1025
 
 abbrev pub samples : List Sample
 samples =
@@ -82,14 +88,18 @@ samples =
     ∷ unchanged (ascii "a" ++ 0 ∷ []) [] [] (Bad 1)
     ∷ unchanged (ascii "ab" ++ 13 ∷ 10 ∷ []) [] [] (Bad 2)
     ∷ unchanged (195 ∷ 169 ∷ 237 ∷ 160 ∷ 128 ∷ []) [] [] (Bad 2)
-    -- 64 and 65 brackets open
-    ∷ unchanged (replicate 64 91) [] [] (Read 0 0)
-    ∷ unchanged (replicate 65 91) [] [] (Deep 64)
     -- "The first that applies, in order 1 to 6, is the answer"
     ∷ unchanged (whole-example ++ 13 ∷ []) [] [] (Bad 34)
     ∷ unchanged whole-example [] [] (FewDefinitions 1)
     ∷ unchanged deep (lent 5) [] (FewDefinitions 1)
-    ∷ sample deep (lent 6) [] (Deep 75) (1 ∷ 2 ∷ 5 ∷ 6 ∷ 0 ∷ 0 ∷ []) []
+    ∷ []
+
+-- as many brackets open as may be, and one more; and the latter before too few span rows
+abbrev pub edges : List Sample
+edges =
+    unchanged (brackets 1024) [] [] (Read 0 0)
+    ∷ unchanged (brackets 1025) [] [] (Deep 1024)
+    ∷ sample deep (lent 6) [] (Deep 1037) (1 ∷ 2 ∷ 5 ∷ 6 ∷ 0 ∷ 0 ∷ []) []
     ∷ []
 
 -- the same notes and tables lent, as they are answered
@@ -101,11 +111,23 @@ readOne x =
     answered (x .note) (x .definitions-lent) (x .spans-lent)
     (readingOf (x .note) (definitionTable.wholeRows (x .definitions-lent)) (spanTable.wholeRows (x .spans-lent)))
 
-pub samples-hold : map readOne samples ≡ samples
+abbrev pub Hold : List Sample → Type 0
+Hold xs = map readOne xs ≡ xs
+
+-- what is computed; `Hold edges` follows, since what is read of opening brackets alone is known
+pub record Computed : Type 0 where
+  pub answers : Hold samples
+  pub good-1024 : checkOf (brackets 1024) ≡ Good
+  pub good-1025 : checkOf (brackets 1025) ≡ Good
+  pub good-deep : checkOf deep ≡ Good
+  pub deep-parts : partsOf deep ≡ (definition (range 1 2) (range 5 6) absent ∷ [], record { at = 8; bytes = ascii "`c`" } ∷ openings 13 1025 ∷ [])
+  pub shallow-first : over depthLimit (grammar (ascii "`c`") (ascii "a" ∷ [])) ≡ none
+
+pub samples-hold : Computed
 unfolding scanBytes run past leap closingStep closing table onesFrom leadingOnes sequenceLength characters rowFor starts characterLength goodLength firstBadPast firstBad checkOf
     inky fitsAfter fits labelEnd unclosed isLabel spaceFrom depthAfter rawStep rawRun judged destinationOf closer titleOf fold spaced formOf compared equals matches
     spans finish scan scanStep scanFound scanStart over overs overWithin blankLine lineLength blockRest blockLength partLength blockHere blocks rows filled matchFrom
-    definition.lineAfter definition.titleAfter definition.endingAfter definition.afterLabel definition.afterIndent definition.definitionAt definition.takingFrom definition.definitionsFrom
-    definition.paragraphEnd definition.paragraphFrom definition.definitionsOf definition.paragraphOf definition.definitionsIn definition.paragraphsIn definitions paragraphs
+    reading.lineAfter reading.titleAfter reading.endingAfter reading.afterLabel reading.afterIndent reading.definitionAt reading.takingFrom reading.definitionsFrom
+    reading.paragraphEnd reading.paragraphFrom reading.definitionsOf reading.paragraphOf reading.definitionsIn reading.paragraphsIn definitions paragraphs
     countAfter runStep runDone closingRun pieceFrom closedAt afterDestination inlineOf labelAfter textTail tailOf labels rowsIn spanRows deepIn firstDeep readingOf
-samples-hold = refl
+samples-hold = record { answers = refl; good-1024 = refl; good-1025 = refl; good-deep = refl; deep-parts = refl; shallow-first = refl }

@@ -2,8 +2,7 @@
 pub mod answer;
 
 ghost use mathlib.Core.Path.{_≡_};
-ghost use Prim.Native.Nat.{_<_};
-ghost use lib.ListN.{length};
+ghost use Rattle.paragraph.specs.Promise.{Lent};
 ghost use Rattle.notice.specs.Promise.{Promise};
 ghost use Rattle.notice.specs.Spans.{Defined, NoteMarked, SpansRead};
 use paragraph::Tally;
@@ -29,11 +28,12 @@ fn note_spans(
     definitions: &[u32],
     count: usize,
     spans: &mut [u32],
+    stack: &mut [u32],
     runs: &mut [u32; ticks::LENGTHS],
     marks: &mut [u8],
 ) -> Tally
     requires { ⌜ Defined (now note) (now definitions) count ⌝ }
-    requires { ⌜ length (now note) < length (now marks) ⌝ }
+    requires { ⌜ Lent (now note) (now stack) (now marks) ⌝ }
     ensures { λ r. ⌜ NoteMarked (now (note .entry)) (now (spans .entry)) r (now (spans .exit)) ⌝ }
 {
     let mut at = 0;
@@ -50,15 +50,12 @@ fn note_spans(
             count,
             spans,
             k,
+            stack,
             runs,
             marks,
         ) {
-            Tally::Deep(place) => {
-                return Tally::Deep(start + place);
-            }
-            Tally::Spans(n) => {
-                k = n;
-            }
+            Tally::Deep(place) => return Tally::Deep(start + place),
+            Tally::Spans(n) => k = n,
         }
         at = next;
     }
@@ -69,6 +66,8 @@ fn read_spans(note: &[u8], definitions: &[u32], count: usize, spans: &mut [u32])
     requires { ⌜ Defined (now note) (now definitions) count ⌝ }
     ensures { λ r. ⌜ SpansRead (now (note .entry)) count (now (spans .entry)) r (now (spans .exit)) ⌝ }
 {
+    // Made once for a note, and lent to each paragraph.
+    let mut stack = [0; paragraph::DEPTH_LIMIT];
     let mut runs = [0; ticks::LENGTHS];
     let mut marks = [0u8; MARKS];
     match note_spans(
@@ -76,6 +75,7 @@ fn read_spans(note: &[u8], definitions: &[u32], count: usize, spans: &mut [u32])
         definitions,
         count,
         &mut spans[..0],
+        &mut stack,
         &mut runs,
         &mut marks,
     ) {
@@ -88,7 +88,15 @@ fn read_spans(note: &[u8], definitions: &[u32], count: usize, spans: &mut [u32])
             if span::whole_rows(spans) < n {
                 return Reading::FewSpans(n);
             }
-            note_spans(note, definitions, count, spans, &mut runs, &mut marks);
+            note_spans(
+                note,
+                definitions,
+                count,
+                spans,
+                &mut stack,
+                &mut runs,
+                &mut marks,
+            );
             Reading::Read(count, n)
         }
     }

@@ -1,8 +1,4 @@
-pub mod Marks
-pub mod Bounds
-pub mod Pieces
-pub mod Step
-pub mod CodeSteps
+pub mod Stack
 pub mod Loop
 pub mod Turns
 pub mod Plain

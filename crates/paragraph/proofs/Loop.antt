@@ -5,8 +5,8 @@ use native.Mathlib.Omega.{arith}
 use mathlib.Core.Path.{_≡_, refl, sym, ap, _∙_}
 use mathlib.Core.Bool.{false}
 use mathlib.Core.Option.{none}
-use mathlib.Core.List.{List, [], _∷_, _++_, map, map-append, reverse}
-use lib.ListN.{length, getD, take, length-append, length-map}
+use mathlib.Core.List.{List, [], _∷_, _++_, map, map-append}
+use lib.ListN.{length, length-append, length-map}
 use Rattle.note.specs.Note.{depthLimit}
 use Rattle.scan.proofs.Test.{by}
 use Rattle.marking.specs.Marking.{role, Piece}
@@ -23,9 +23,10 @@ use Rattle.inline.specs.ReadingPieces.{pieceFrom}
 use Rattle.inline.specs.Reading.{grammar}
 use Rattle.inline.specs.ReadingRows.{rowFor}
 use Rattle.inline.proofs.Computing.{sound}
-use Rattle.paragraph.specs.Reading.{storedAll}
-use Rattle.paragraph.specs.Promise.{spansAt, Steps, Reads}
-use Rattle.paragraph.specs.declared.Walk.{Walk}
+use Rattle.step.specs.Reading.{storedAll}
+use Rattle.step.specs.Promise.{fromRow, spansAt, Steps}
+use Rattle.paragraph.specs.Promise.{openPlaces, Waits, Reads}
+use Rattle.step.specs.declared.Walk.{Walk}
 use Rattle.paragraph.specs.declared.Tally.the-variants.{Spans}
 
 -- ---- rows stored one after the other
@@ -47,10 +48,6 @@ scan-eq : {T : Type 0} {a a′ : ℕ} {b b′ : List ℕ} {c c′ : ℕ} (xs : L
 scan-eq xs ea eb ec = rw (ea, eb, ec)
 
 -- ---- the invariant
--- at each of the first `depth` places a `[` stands, before place `at`
-abbrev pub Waits : List ℕ → ℕ → List ℕ → ℕ → Type 0
-Waits p at stack depth = (i : ℕ) → i < depth → (getD p (getD stack i 0) 0 ≡ 91) × (getD stack i 0 < at)
-
 module _ (offset : ℕ) (p : List ℕ) (labels : List (List ℕ)) (ds : List Definition) (k : ℕ) (t₀ : List ℕ) where
   abbrev g : Grammar Tail
   g = grammar p labels
@@ -59,22 +56,20 @@ module _ (offset : ℕ) (p : List ℕ) (labels : List (List ℕ)) (ds : List Def
   rows = map (rowFor offset p ds)
 
   -- where the code stands, as a state of the scan; the spans so far are xs
-  abbrev scanOf : List ℕ → ℕ → Walk → List (marked.Span Tail) → Scan Tail
-  scanOf stack depth w xs = record { place = w .at; stack = reverse (take depth stack); last-link = w .last; spans = xs }
+  abbrev scanOf : List ℕ → Walk → List (marked.Span Tail) → Scan Tail
+  scanOf stack w xs = record { place = w .at; stack = openPlaces w stack; last-link = w .last; spans = xs }
 
-  pub record On (stack : List ℕ) (depth : ℕ) (w : Walk) (t : List ℕ) : Type 0 where
+  pub record On (stack : List ℕ) (w : Walk) (t : List ℕ) : Type 0 where
     pub xs : List (marked.Span Tail)
-    pub same-end : finish g (scanOf stack depth w xs) ≡ finish g scanStart
-    pub same-over : overs depthLimit g (scanOf stack depth w xs) ≡ overs depthLimit g scanStart
+    pub same-end : finish g (scanOf stack w xs) ≡ finish g scanStart
+    pub same-over : overs depthLimit g (scanOf stack w xs) ≡ overs depthLimit g scanStart
     pub row-is : w .row ≡ k + length xs
     pub table-is : t ≡ storedAll t₀ k (rows xs)
     pub few : length xs ≤ w .at
     pub bounded : w .at ≤ length p
-    pub waits : Waits p (w .at) stack depth
-    pub fits : depth ≤ depthLimit
-    pub full : length stack ≡ depthLimit
+    pub waits : Waits p w stack
 
-  pub on-start : (stack : List ℕ) → length stack ≡ depthLimit → On stack 0 (record { at = 0; last = 0; row = k }) t₀
+  pub on-start : (stack : List ℕ) → depthLimit ≤ length stack → On stack (fromRow k) t₀
   unfolding scanStart storedAll
   on-start stack e =
       record {
@@ -85,17 +80,15 @@ module _ (offset : ℕ) (p : List ℕ) (labels : List (List ℕ)) (ds : List Def
         table-is = refl;
         few = omega arith;
         bounded = omega arith;
-        waits = λ i h. absurd (omega arith);
-        fits = omega arith;
-        full = e;
+        waits = record { room = e; fits = omega arith; each = λ i h. absurd (omega arith) };
       }
 
-  module _ {stack : List ℕ} {depth : ℕ} {w : Walk} {t : List ℕ} (o : On stack depth w t) where
+  module _ {stack : List ℕ} {w : Walk} {t : List ℕ} (o : On stack w t) where
     pub on-end : length p ≤ w .at → Reads offset p labels ds k t₀ (Spans (w .row)) t
     unfolding over spans
     on-end h =
-        let f : over depthLimit g ≡ none = sym (o .same-over) ∙ overs-end depthLimit g (scanOf stack depth w (o .xs)) h in
-        let e : spans g ≡ o .xs = ap (λ (s : Scan Tail). s .spans) (sym (o .same-end) ∙ finish-end g (scanOf stack depth w (o .xs)) h) in
+        let f : over depthLimit g ≡ none = sym (o .same-over) ∙ overs-end depthLimit g (scanOf stack w (o .xs)) h in
+        let e : spans g ≡ o .xs = ap (λ (s : Scan Tail). s .spans) (sym (o .same-end) ∙ finish-end g (scanOf stack w (o .xs)) h) in
         record {
           answer = rw (f, e) (ap (λ (n : ℕ). Spans n) (o .row-is));
           table = λ z. rw e (o .table-is);
@@ -104,22 +97,22 @@ module _ (offset : ℕ) (p : List ℕ) (labels : List (List ℕ)) (ds : List Def
 
     module _ (h : w .at < length p) where
       abbrev here : Scan Tail
-      here = scanOf stack depth w (o .xs)
+      here = scanOf stack w (o .xs)
 
       -- the spans that end here
       abbrev more : Match Tail → List (marked.Span Tail)
       more = spansAt offset p labels ds (w .at)
 
-      module _ (stack′ : List ℕ) (depth′ : ℕ) {f : Match Tail} {w′ : Walk} {u : List ℕ} (s : Steps offset p labels ds f w t w′ u) (ef : scanFound g here ≡ f)
-          (es : stackBy (w .at) (reverse (take depth stack)) (role (pieceFrom p (w .at) .kind)) ≡ reverse (take depth′ stack′)) where
-        next : scanStep g here ≡ scanOf stack′ depth′ w′ (o .xs ++ more f)
+      module _ (stack′ : List ℕ) {f : Match Tail} {w′ : Walk} {u : List ℕ} (s : Steps offset p labels ds f w t w′ u) (ef : scanFound g here ≡ f)
+          (es : stackBy (w .at) (openPlaces w stack) (role (pieceFrom p (w .at) .kind)) ≡ openPlaces w′ stack′) where
+        next : scanStep g here ≡ scanOf stack′ w′ (o .xs ++ more f)
         unfolding scanStep
         next =
             ap
             (λ (x : Match Tail).
             (record {
               place = placeAfter g (pieceAt g (w .at)) x;
-              stack = stackBy (w .at) (reverse (take depth stack)) (role (pieceFrom p (w .at) .kind));
+              stack = stackBy (w .at) (openPlaces w stack) (role (pieceFrom p (w .at) .kind));
               last-link = lastAfter (w .last) x;
               spans = o .xs ++ newSpans (pieceAt g) (pieceAt g (w .at)) x;
             }))
@@ -129,8 +122,8 @@ module _ (offset : ℕ) (p : List ℕ) (labels : List (List ℕ)) (ds : List Def
         pub on-less : w .at < w′ .at
         on-less = omega (arith, scan-grows g (sound p labels) here h, ap (λ (x : Scan Tail). x .place) next)
 
-        pub on-next : overAt depthLimit g here ≡ false → depth′ ≤ depthLimit → length stack′ ≡ depthLimit → Waits p (w′ .at) stack′ depth′ → On stack′ depth′ w′ u
-        on-next eo fits full waits =
+        pub on-next : overAt depthLimit g here ≡ false → Waits p w′ stack′ → On stack′ w′ u
+        on-next eo waits =
             let l : length (o .xs ++ more f) ≡ length (o .xs) + length (more f) = length-append (o .xs) (more f) in
             record {
               xs = o .xs ++ more f;
@@ -141,8 +134,6 @@ module _ (offset : ℕ) (p : List ℕ) (labels : List (List ℕ)) (ds : List Def
               few = omega (arith, o .few, few-spans (pieceAt g) (pieceAt g (w .at)) f, on-less);
               bounded = omega (arith, scan-within g (sound p labels) here h, ap (λ (x : Scan Tail). x .place) next);
               waits = waits;
-              fits = fits;
-              full = full;
             }
           where
             table-more : u ≡ storedAll t₀ k (rows (o .xs ++ more f))

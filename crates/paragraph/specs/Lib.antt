@@ -1,4 +1,3 @@
-pub mod Reading
 pub mod Tally
 pub mod Promise
 pub mod Samples

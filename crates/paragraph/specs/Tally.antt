@@ -4,7 +4,7 @@ use mathlib.Core.Option.{Option, none, some}
 use Rattle.paragraph.specs.declared.Tally.{Tally}
 use Rattle.paragraph.specs.declared.Tally.the-variants.{Deep, Spans}
 
--- 4: "some paragraph has over 64 brackets open at once"
+-- 4: some paragraph has over `depthLimit` brackets open at once
 abbrev pub numberOf : Tally → ℕ
 numberOf (Deep place) = 4
 numberOf (Spans n) = 0

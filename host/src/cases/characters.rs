@@ -97,7 +97,7 @@ fn ill_formed() -> Vec<Case> {
             Case::of(name, last).tables(6, 10),
         ]);
     }
-    let after_all = [b"[a]: b\n\n".as_slice(), &[b'['; 65], b"\r"].concat();
+    let after_all = [b"[a]: b\n\n".as_slice(), &[b'['; 1_025], b"\r"].concat();
     cases.extend([
         Case::of("a bad byte after all else, no rows lent", after_all).tables(0, 0),
         Case::of("a bad byte, then ill-formed bytes", b"ab\rc\xff"),

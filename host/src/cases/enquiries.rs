@@ -142,7 +142,7 @@ fn blocks() -> Vec<Case> {
 
 /// Enquiries for which more than one refusal applies, or one that the enquiry does not give.
 fn refusals() -> Vec<Case> {
-    let deep = "[".repeat(65) + "\n\n[a]: /u";
+    let deep = "[".repeat(1_025) + "\n\n[a]: /u";
     let long = "\r".repeat(LONGEST_NOTE + 1);
     vec![
         Case::of("enquiry, a note too deep to be marked", deep)

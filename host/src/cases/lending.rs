@@ -24,7 +24,7 @@ fn tables() -> Vec<Case> {
 
 /// Notes for which more than one refusal applies.
 fn refusals() -> Vec<Case> {
-    let deep = "[".repeat(65);
+    let deep = "[".repeat(1_025);
     vec![
         Case::of("too few of both", format!("{THREE}[a]")).tables(17, 9),
         Case::of(

@@ -94,26 +94,32 @@ fn labels() -> Vec<Case> {
 /// Cases of brackets that stay open.
 fn brackets() -> Vec<Case> {
     let open = |count: usize| "[".repeat(count);
-    let second = format!("one [a](b)\n\n{}", open(65));
-    let both = format!("{}\n\n{}", open(64), open(64));
-    let two_deep = format!("a\n\n{}\n\nb\n\n{}", open(65), open(67));
+    let second = format!("one [a](b)\n\n{}", open(1_025));
+    let both = format!("{}\n\n{}", open(1_024), open(1_024));
+    let two_deep = format!("a\n\n{}\n\nb\n\n{}", open(1_025), open(1_027));
     [
-        ("64 opening brackets", open(64)),
-        ("65 opening brackets", open(65)),
-        ("66 opening brackets", open(66)),
-        ("65 opening brackets in the second paragraph", second),
-        ("64 opening brackets in each of two paragraphs", both),
+        ("1,024 opening brackets", open(1_024)),
+        ("1,025 opening brackets", open(1_025)),
+        ("1,026 opening brackets", open(1_026)),
+        ("1,025 opening brackets in the second paragraph", second),
+        ("1,024 opening brackets in each of two paragraphs", both),
         ("two paragraphs too deep", two_deep),
         (
-            "65 opening brackets after letters of two bytes",
-            format!("éé\n\nüü {}", open(65)),
+            "1,025 opening brackets after letters of two bytes",
+            format!("éé\n\nüü {}", open(1_025)),
         ),
-        ("70 escaped brackets", "\\[".repeat(70)),
-        ("70 brackets in a code span", format!("`{}`", open(70))),
-        ("70 brackets in a tail", format!("[a](<{}>)", open(70))),
+        ("1,100 escaped brackets", "\\[".repeat(1_100)),
         (
-            "brackets that close nothing, then 65",
-            "]".repeat(9) + &open(65),
+            "1,100 brackets in a code span",
+            format!("`{}`", open(1_100)),
+        ),
+        (
+            "1,100 brackets in a tail",
+            format!("[a](<{}>)", open(1_100)),
+        ),
+        (
+            "brackets that close nothing, then 1,025",
+            "]".repeat(9) + &open(1_025),
         ),
     ]
     .map(|(name, note)| Case::of(name, note).tables(0, 20))
@@ -124,30 +130,30 @@ fn brackets() -> Vec<Case> {
 fn closed_brackets() -> Vec<Case> {
     let open = |count: usize| "[".repeat(count);
     let close = |count: usize| "]".repeat(count);
-    let links = "[a](b)".to_string() + &"](c)".repeat(63);
+    let links = "[a](b)".to_string() + &"](c)".repeat(1_023);
     let mut cases: Vec<Case> = [
-        ("64 open, one closed, one opened", open(64) + "]["),
-        ("64 open, one closed, two opened", open(64) + "][["),
+        ("1,024 open, one closed, one opened", open(1_024) + "]["),
+        ("1,024 open, one closed, two opened", open(1_024) + "][["),
         (
-            "64 open, all closed, 64 opened",
-            open(64) + &close(64) + &open(64),
+            "1,024 open, all closed, 1,024 opened",
+            open(1_024) + &close(1_024) + &open(1_024),
         ),
         (
-            "64 pairs, the inmost a link",
-            open(64) + "a](b)" + &close(63),
+            "1,024 pairs, the inmost a link",
+            open(1_024) + "a](b)" + &close(1_023),
         ),
         (
-            "65 pairs, the inmost a link",
-            open(65) + "a](b)" + &close(64),
+            "1,025 pairs, the inmost a link",
+            open(1_025) + "a](b)" + &close(1_024),
         ),
-        ("a link in a link 64 deep", open(63) + &links),
+        ("a link in a link 1,024 deep", open(1_023) + &links),
         (
-            "64 open before a tail of brackets",
-            open(64) + "](<" + &open(9) + ">)",
+            "1,024 open before a tail of brackets",
+            open(1_024) + "](<" + &open(9) + ">)",
         ),
         (
-            "40 open, a link, 40 opened",
-            open(40) + "[a](b)" + &open(40),
+            "600 open, a link, 600 opened",
+            open(600) + "[a](b)" + &open(600),
         ),
     ]
     .map(|(name, note)| Case::of(name, note).tables(0, 20))

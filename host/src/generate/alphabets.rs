@@ -155,12 +155,13 @@ pub const ALPHABETS: &[Alphabet] = &[
     Alphabet {
         name: "deep brackets",
         pieces: &[
-            b"[[[[[[[[[[[[[[[[",
-            b"[[[[[[[[[[[[[[[[",
-            b"[[[[[[[[",
+            &[b'['; 256],
+            &[b'['; 256],
+            &[b'['; 128],
             b"[",
             b"]",
             b"]]]]",
+            &[b']'; 64],
             b"](b)",
             b"a",
             b"\\[",

@@ -35,7 +35,7 @@ pub fn of_size(most: usize) -> Vec<BenchNote> {
         ("notice", notice(chance, share(16_000))),
         ("prose", prose(chance, most)),
         ("open_tails", repeated("[a](b")),
-        ("nested", nested(share(260))),
+        ("nested", nested(share(16))),
         ("stray_close", repeated("a]")),
         ("empty_links", repeated("[]()")),
         ("labels", "[a".repeat(share(900)) + "]"),
@@ -51,7 +51,7 @@ pub fn of_size(most: usize) -> Vec<BenchNote> {
         ),
         ("empty_tails", repeated("[](")),
         ("bracket_words", repeated("[a] ")),
-        ("deep_text", deep_text(most)),
+        ("deep_text", deep_text(share(1_000), most)),
     ];
     notes
         .into_iter()
@@ -134,15 +134,15 @@ fn prose(chance: &mut Chance, most: usize) -> String {
     note
 }
 
-/// Pairs of brackets inside each other, 60 deep, so many times.
+/// Pairs of brackets inside each other, 1,000 deep, so many times.
 fn nested(times: usize) -> String {
-    let deep = "[".repeat(60) + "a" + &"]".repeat(60) + " ";
+    let deep = "[".repeat(1_000) + "a" + &"]".repeat(1_000) + " ";
     deep.repeat(times)
 }
 
-/// A long text between brackets 60 deep.
-fn deep_text(most: usize) -> String {
-    "[".repeat(60) + &"a".repeat(most - 120) + &"]".repeat(60)
+/// A long text between brackets so deep.
+fn deep_text(deep: usize, most: usize) -> String {
+    "[".repeat(deep) + &"a".repeat(most - 2 * deep) + &"]".repeat(deep)
 }
 
 /// Short definitions and nothing else.

@@ -2,6 +2,7 @@
 //! brackets, blank lines; now and then with a byte spoilt.
 
 use super::chance::Chance;
+use crate::second::MOST_BRACKETS_OPEN;
 
 const LABELS: &[&str] = &[
     "a", "b", "foo", "foo bar", "ref\\[", "\\]", "é", "a\\!", "x`y", "limit 1", "a b c", "Zz",
@@ -135,7 +136,7 @@ pub fn varied(chance: &mut Chance, text: &str) -> String {
 fn paragraph(chance: &mut Chance) -> String {
     let mut text = String::new();
     if chance.once_in(60) {
-        text += &"[".repeat(chance.between(62, 67));
+        text += &"[".repeat(chance.between(MOST_BRACKETS_OPEN - 2, MOST_BRACKETS_OPEN + 3));
     }
     let depth = chance.below(4);
     text + &content(chance, depth)

@@ -15,8 +15,8 @@ pub mod number {
     pub const NOTE_ILL_FORMED: u32 = 2;
     /// "fewer whole definition rows lent than definitions"; with it "rows needed".
     pub const FEW_DEFINITION_ROWS: u32 = 3;
-    /// "some paragraph has over 64 brackets open at once"; with it "place of the first bracket too
-    /// many".
+    /// Some paragraph has over `MOST_BRACKETS_OPEN` brackets open at once; with it "place of the first
+    /// bracket too many".
     pub const BRACKETS_TOO_DEEP: u32 = 4;
     /// "fewer whole span rows lent than spans"; with it "rows needed".
     pub const FEW_SPAN_ROWS: u32 = 5;

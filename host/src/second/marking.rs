@@ -5,8 +5,9 @@ use super::text::Text;
 use super::wrong::Within;
 use super::Wrong;
 
-/// Refusal 4: "some paragraph has over 64 brackets open at once".
-pub const MOST_BRACKETS_OPEN: usize = 64;
+/// Refusal 4: "some paragraph has over 64 brackets open at once"; document 02, request 4: "Raise
+/// refusal 4 from 64 to 1,024."
+pub const MOST_BRACKETS_OPEN: usize = 1_024;
 
 /// "What starts a piece decides its kind".
 #[derive(Clone, Copy, Debug, PartialEq, Eq)]

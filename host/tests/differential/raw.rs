@@ -39,7 +39,7 @@ fn read_only(bytes: &[u8]) -> *const u8 {
 
 /// Notes with the numbers lent to each table and the page, one or more for each answer.
 fn lendings() -> Vec<(Vec<u8>, [usize; 3])> {
-    let deep = [NOTE, &[b'['; 65]].concat();
+    let deep = [NOTE, &[b'['; 1_025]].concat();
     vec![
         (vec![], [0, 0, 0]),
         (vec![b'a'; 32_769], [0, 0, 0]),

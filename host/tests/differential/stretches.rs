@@ -1,4 +1,4 @@
-//! Long runs of backticks and of blanks, at the lengths where the library goes another way.
+//! Long runs of backticks, of blanks and of brackets, at the lengths where the library goes another way.
 
 use crate::compare;
 use crate::named::{compare_long, must};
@@ -39,6 +39,27 @@ fn runs_of_backticks_in_short_paragraphs() {
             let mut note = piece.repeat(size / piece.len());
             note += &"x".repeat(size - note.len());
             compare_long(format!("{note}\n\n{note}`\n\n`{note}").as_bytes());
+        }
+    }
+}
+
+#[test]
+fn brackets_near_the_limit() {
+    for n in [1, 2, 63, 64, 65, 1_022, 1_023, 1_024, 1_025, 1_026] {
+        let [open, close] = ["[", "]"].map(|bracket| bracket.repeat(n));
+        let notes = [
+            format!("{open}a{close}"),
+            format!("{open}a](b){close}"),
+            format!("{open}`]`\\]a{close}]"),
+            format!("{open}]{open}"),
+            format!("[a]: b\n\n{}a{}", "[x ".repeat(n), "][a] ".repeat(n)),
+            // Brackets that an earlier paragraph left open, and closing ones of a later one.
+            format!("{open}\n\n{close}"),
+            format!("{open}\n\n[a](b){close}\n\n]{open}](c)\n\n{close}{open}"),
+            format!("[a]: b\n\n{open}\n\n{open}a{close}\n\n[a]{close}{open}"),
+        ];
+        for note in notes {
+            compare_long(note.as_bytes());
         }
     }
 }

@@ -12,32 +12,35 @@ fn too_deep(place: usize) -> ReadAnswer {
 }
 
 #[test]
-fn brackets_64_and_65() {
+fn brackets_1024_and_1025() {
     let open = |count: usize| "[".repeat(count);
     let close = |count: usize| "]".repeat(count);
-    check(&open(64), &[], &[], &format!("<p>{}</p>\n", open(64)));
-    assert_eq!(read(open(65).as_bytes()), too_deep(64));
-    assert_eq!(read(open(70).as_bytes()), too_deep(64));
+    check(&open(1_024), &[], &[], &format!("<p>{}</p>\n", open(1_024)));
+    assert_eq!(read(open(1_025).as_bytes()), too_deep(1_024));
+    assert_eq!(read(open(1_100).as_bytes()), too_deep(1_024));
     // Closed later all the same.
-    assert_eq!(read((open(64) + &close(64)).as_bytes()).number, 0);
-    assert_eq!(read((open(65) + &close(65)).as_bytes()), too_deep(64));
+    assert_eq!(read((open(1_024) + &close(1_024)).as_bytes()).number, 0);
+    assert_eq!(
+        read((open(1_025) + &close(1_025)).as_bytes()),
+        too_deep(1_024)
+    );
     // A pair is open no more; an unpaired closing bracket changes nothing.
-    assert_eq!(read(("[]".to_string() + &open(64)).as_bytes()).number, 0);
+    assert_eq!(read(("[]".to_string() + &open(1_024)).as_bytes()).number, 0);
     assert_eq!(
-        read(("[]".to_string() + &open(65)).as_bytes()),
-        too_deep(66)
+        read(("[]".to_string() + &open(1_025)).as_bytes()),
+        too_deep(1_026)
     );
     assert_eq!(
-        read(("]]]".to_string() + &open(65)).as_bytes()),
-        too_deep(67)
+        read(("]]]".to_string() + &open(1_025)).as_bytes()),
+        too_deep(1_027)
     );
-    assert_eq!(read((open(64) + "][").as_bytes()).number, 0);
-    assert_eq!(read((open(64) + "][[").as_bytes()), too_deep(66));
+    assert_eq!(read((open(1_024) + "][").as_bytes()).number, 0);
+    assert_eq!(read((open(1_024) + "][[").as_bytes()), too_deep(1_026));
 }
 
 #[test]
 fn brackets_that_do_not_open() {
-    let open = "[".repeat(64);
+    let open = "[".repeat(1_024);
     // Escaped, in code, in a tail.
     assert_eq!(read(("\\[".to_string() + &open).as_bytes()).number, 0);
     assert_eq!(read(("`[`".to_string() + &open).as_bytes()).number, 0);
@@ -47,15 +50,15 @@ fn brackets_that_do_not_open() {
 
 #[test]
 fn brackets_of_each_paragraph_start_afresh() {
-    let open = "[".repeat(64);
+    let open = "[".repeat(1_024);
     assert_eq!(read(format!("{open}\n\n{open}").as_bytes()).number, 0);
     assert_eq!(
         read(format!("{open}\n\n{open}[").as_bytes()),
-        too_deep(66 + 64)
+        too_deep(1_026 + 1_024)
     );
-    assert_eq!(read(format!("{open}\n{open}").as_bytes()), too_deep(65));
+    assert_eq!(read(format!("{open}\n{open}").as_bytes()), too_deep(1_025));
     assert_eq!(
         read(format!("{open}[[[\n\n{open}[").as_bytes()),
-        too_deep(64)
+        too_deep(1_024)
     );
 }

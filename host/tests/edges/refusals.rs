@@ -19,13 +19,16 @@ fn the_note_of_the_refusals() {
 
 #[test]
 fn refusals_in_order() {
-    let deep = format!("[a]: /x\n[b]: /y\n\n`c`{}", "[".repeat(65));
+    let deep = format!("[a]: /x\n[b]: /y\n\n`c`{}", "[".repeat(1_025));
     let ill_formed = format!("{deep}\r");
     let too_long = ill_formed.clone() + &" ".repeat(32_769 - ill_formed.len());
 
     // Everything is wrong; then one thing after another is put right.
     assert_eq!(second::read(too_long.as_bytes(), 0, 0), refused(1, 32_769));
-    assert_eq!(second::read(ill_formed.as_bytes(), 0, 0), refused(2, 85));
+    assert_eq!(
+        second::read(ill_formed.as_bytes(), 0, 0),
+        refused(2, 20 + 1_025)
+    );
     assert_eq!(second::read(deep.as_bytes(), 0, 0), refused(3, 2));
     assert_eq!(second::read(deep.as_bytes(), 11, 0), refused(3, 2));
     let with_definitions = |number, value| ReadAnswer {
@@ -34,7 +37,7 @@ fn refusals_in_order() {
     };
     assert_eq!(
         second::read(deep.as_bytes(), 12, 0),
-        with_definitions(4, 20 + 64)
+        with_definitions(4, 20 + 1_024)
     );
     assert_eq!(second::read(NOTE.as_bytes(), 12, 0), with_definitions(5, 2));
     assert_eq!(
@@ -46,7 +49,7 @@ fn refusals_in_order() {
 
 #[test]
 fn refusals_of_the_page_writer() {
-    let deep = format!("[a]: /x\n[b]: /y\n\n`c`{}", "[".repeat(65));
+    let deep = format!("[a]: /x\n[b]: /y\n\n`c`{}", "[".repeat(1_025));
     let none = RenderAnswer {
         number: 0,
         value: 0,
@@ -72,7 +75,7 @@ fn refusals_of_the_page_writer() {
     assert_eq!(second::render(deep.as_bytes(), 11, 0, 0), refused(3, 2));
     assert_eq!(
         second::render(deep.as_bytes(), 12, 0, 0),
-        with_definitions(4, 84)
+        with_definitions(4, 20 + 1_024)
     );
     let note = NOTE.as_bytes();
     assert_eq!(second::render(note, 12, 19, 0), with_definitions(5, 2));
@@ -199,8 +202,8 @@ fn enquiries() {
     assert_eq!(second::resolve(&long, b""), refused_enquiry(1, 32_769));
     assert_eq!(second::resolve(b"abc\r", b""), refused_enquiry(2, 3));
     // And no other: brackets too deep are no matter of the enquiry's.
-    let deep = format!("{}\n\n[a]: b", "[".repeat(65));
-    assert_eq!(second::resolve(deep.as_bytes(), b"a"), found(72, 73));
+    let deep = format!("{}\n\n[a]: b", "[".repeat(1_025));
+    assert_eq!(second::resolve(deep.as_bytes(), b"a"), found(1_032, 1_033));
 }
 
 #[test]

@@ -4,7 +4,7 @@ use std::path::{Path, PathBuf};
 
 use crate::run::{notice_in, Ran};
 
-const GOOD: [&str; 4] = ["june", "max", "night-shift", "pump-library"];
+const GOOD: [&str; 5] = ["formulary", "june", "max", "night-shift", "pump-library"];
 const REFUSED: &str = "too-deep";
 
 fn host() -> &'static Path {

@@ -83,22 +83,22 @@ fn no_good_character() {
 
 #[test]
 fn too_many_brackets() {
-    let words = "this bracket opens while 64 are open, the most there may be; \
+    let words = "this bracket opens while 1024 are open, the most there may be; \
                  close some, or write \\[ where a bracket is only text";
     let deep = |count| "[".repeat(count);
     for (note, place) in [
-        (deep(65), "1:65"),
-        (format!("[é]: é\n\nµg\né {}]", deep(70)), "4:67"),
-        (format!("{}\n\n[]{}", deep(64), deep(65)), "3:67"),
-        (format!("`[`\\[{}", deep(65)), "1:70"),
+        (deep(1_025), "1:1025"),
+        (format!("[é]: é\n\nµg\né {}]", deep(1_030)), "4:1027"),
+        (format!("{}\n\n[]{}", deep(1_024), deep(1_025)), "3:1027"),
+        (format!("`[`\\[{}", deep(1_025)), "1:1030"),
     ] {
         let line = refused(note.as_bytes(), 4);
         assert_eq!(line, format!("-:{place}: refusal 4: {words}\n"));
     }
-    let good = format!("{}\n\n{}", deep(64), deep(64));
+    let good = format!("{}\n\n{}", deep(1_024), deep(1_024));
     assert_eq!(notice(&["check", "-"], good.as_bytes()).good(), "");
     // The enquiry reads no paragraph.
-    let note = format!("[a]: b\n\n{}", deep(65));
+    let note = format!("[a]: b\n\n{}", deep(1_025));
     let answer = notice(&["where", "a", "-"], note.as_bytes()).good();
     assert_eq!(answer, "b, line 1 (column 6)\n");
 }

@@ -3,6 +3,7 @@ use borrow.Author.Needs.{needs}
 use Prim.Native.Nat.{ℕ}
 use native.Mathlib.Omega.{arith}
 use lib.ListN.{length-replicate}
+use Rattle.note.specs.Note.{depthLimit}
 use Rattle.notice.proofs.Returns.{too-many-open, none-there, too-few-rows, all-stored}
 use Rattle.notice.proofs.read_spans.Statement.{statement}
 use Rattle.notice.proofs.read_spans.Tie as tie
@@ -18,8 +19,11 @@ slice-aggregate-note-spans c = search needs
 slice-aggregate-note-spans-2 : tie.Need-slice-aggregate-note-spans-2
 slice-aggregate-note-spans-2 c = search needs
 
+slice-aggregate-note-spans-3 : tie.Need-slice-aggregate-note-spans-3
+slice-aggregate-note-spans-3 c = search needs
+
 note-spans-requires : tie.Need-note-spans-requires
-note-spans-requires c κs = (c .before .before .before .before .before .before .pre, omega (arith, c .before .before .before .before .before .before .pre .short, length-replicate {A = ℕ} 32769 0))
+note-spans-requires c κs = let p = c .before .before .before .before .before .before .before .pre in (p, record { places = omega (arith, length-replicate {A = ℕ} depthLimit 0); bytes = omega (arith, p .short, length-replicate {A = ℕ} 32769 0) })
 
 enum-known-place : tie.Need-enum-known-place
 enum-known-place c = search needs
@@ -31,10 +35,7 @@ same-length : tie.Need-same-length
 same-length c = search needs
 
 returns : tie.Need-returns
-returns c =
-    let counted = c .before .before .before .before .before .before .before in
-    let a = counted .before .before .before .before .before .before .before .args in
-    none-there (a .note .now) (a .count) (counted .note-spans .ensures) (a .spans .now) (c .before .before .n .given .1) (c .if1 .taken)
+returns c = let counted = c .before .before .before .before .before .before .before .before in let a = c .before .before .before .before .before .before .before .before .before .before .before .before .before .before .before .before .args in none-there (a .note .now) (a .count) (counted .note-spans .ensures) (a .spans .now) (c .before .before .n .given .1) (c .if1 .taken)
 
 whole-rows-requires : tie.Need-whole-rows-requires
 whole-rows-requires c κs = search needs
@@ -45,14 +46,14 @@ same-length-2 c = search needs
 returns-2 : tie.Need-returns-2
 returns-2 c = search returning
 
-slice-aggregate-note-spans-3 : tie.Need-slice-aggregate-note-spans-3
-slice-aggregate-note-spans-3 c = search needs
+slice-aggregate-note-spans-4 : tie.Need-slice-aggregate-note-spans-4
+slice-aggregate-note-spans-4 c = search needs
+
+slice-aggregate-note-spans-5 : tie.Need-slice-aggregate-note-spans-5
+slice-aggregate-note-spans-5 c = search needs
 
 note-spans-requires-2 : tie.Need-note-spans-requires-2
-note-spans-requires-2 c κs =
-    let counted = c .before .before .before .before .before .before .before .before .before .before .before .before .before in
-    let b = counted .before .before .before .before .before .before .before .pre in
-    (b, omega (arith, counted .note-spans .kept .1 .1 .1 .1 .1 .0, b .short, length-replicate {A = ℕ} 32769 0))
+note-spans-requires-2 c κs = let k = c .before .before .before .before .before .before .before .before .before .before .before .before .before .before .before .note-spans .kept in let p = c .before .before .before .before .before .before .before .before .before .before .before .before .before .before .before .before .before .before .before .before .before .before .before .pre in (p, record { places = omega (arith, k .1 .1 .1 .1 .0, length-replicate {A = ℕ} depthLimit 0); bytes = omega (arith, k .1 .1 .1 .1 .1 .1 .0, p .short, length-replicate {A = ℕ} 32769 0) })
 
 same-length-3 : tie.Need-same-length-3
 same-length-3 c = search needs
@@ -73,6 +74,7 @@ read-spans-spec =
     slice-relend-prefix-note-spans
     slice-aggregate-note-spans
     slice-aggregate-note-spans-2
+    slice-aggregate-note-spans-3
     note-spans-requires
     enum-known-place
     enum-known-n
@@ -81,7 +83,8 @@ read-spans-spec =
     whole-rows-requires
     same-length-2
     returns-2
-    slice-aggregate-note-spans-3
+    slice-aggregate-note-spans-4
+    slice-aggregate-note-spans-5
     note-spans-requires-2
     same-length-3
     returns-3

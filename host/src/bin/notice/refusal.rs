@@ -9,8 +9,8 @@ use crate::places::{Lines, Place};
 
 /// "note longer than 32,768 bytes".
 const LONGEST_NOTE: u64 = 32_768;
-/// "over 64 brackets open at once".
-const MOST_BRACKETS_OPEN: u64 = 64;
+/// "over 1,024 brackets open at once".
+const MOST_BRACKETS_OPEN: u64 = 1_024;
 /// Where a refusal stands that has no place.
 const NO_PLACE: Place = Place { line: 1, column: 1 };
 

@@ -19,22 +19,23 @@ use Rattle.inline.specs.ReadingPieces.{piece, pieceFrom}
 use Rattle.inline.specs.Reading.{grammar, tailAt}
 use Rattle.inline.specs.ReadingRows.{rowFor}
 use Rattle.link.specs.Reading.{linkRow}
-use Rattle.paragraph.specs.Reading.{storedAll}
-use Rattle.paragraph.specs.Promise.{spansAt, Steps, closing}
-use Rattle.paragraph.specs.declared.Walk.{Walk}
-use Rattle.paragraph.proofs.Pieces.{at-open, at-close}
+use Rattle.step.specs.Reading.{storedAll}
+use Rattle.step.specs.Promise.{spansAt, Steps, closing}
+use Rattle.step.specs.declared.Walk.{Walk}
+use Rattle.inline.proofs.Pieces.{at-open, at-close}
 
 abbrev codeSpans : Piece → List (marked.Span Tail)
 codeSpans q = marked.codeSpan q ∷ []
 
 module _ (offset : ℕ) (p : List ℕ) (labels : List (List ℕ)) (ds : List Definition) (v : Walk) (t : List ℕ) where
+  -- whatever number of brackets is open afterwards
   abbrev Passed : Match Tail → ℕ → ℕ → ℕ → List ℕ → Type 0
-  Passed f at last row u = Steps offset p labels ds f v t (record { at = at; last = last; row = row }) u
+  Passed f at last row u = (depth : ℕ) → Steps offset p labels ds f v t (record { at = at; last = last; row = row; depth = depth }) u
 
   -- ---- a piece in no pair
   pub step-quiet : (q : Piece) → pieceFrom p (v .at) ≡ q → isCode (q .kind) ≡ false → Passed alone (q .end) (v .last) (v .row) t
   unfolding storedAll
-  step-quiet q e k =
+  step-quiet q e k depth =
       let z : spansAt offset p labels ds (v .at) alone ≡ [] =
       ap (λ (x : Piece). cond (isCode (x .kind)) (codeSpans (pieceAt (grammar p labels) (v .at))) []) e
       ∙ ap (λ (b : Bool). cond b (codeSpans (pieceAt (grammar p labels) (v .at))) []) k in
@@ -43,7 +44,7 @@ module _ (offset : ℕ) (p : List ℕ) (labels : List (List ℕ)) (ds : List Def
   pub step-code : (e : ℕ) → pieceFrom p (v .at) ≡ piece code (v .at) e → {r : Span} {u : List ℕ} → r ≡ rowFor offset p ds (marked.codeSpan (piece code (v .at) e))
       → u ≡ stored t (v .row) r → Passed alone e (v .last) (v .row + 1) u
   unfolding storedAll
-  step-code e q er eu =
+  step-code e q er eu depth =
       let z : spansAt offset p labels ds (v .at) alone ≡ marked.codeSpan (piece code (v .at) e) ∷ [] =
       ap (λ (x : Piece). cond (isCode (x .kind)) (codeSpans (piece (x .kind) (v .at) (x .end))) []) q in
       record { at = ap (λ (x : Piece). x .end) (sym q); last = refl; row = rw z refl; table = rw (z, ← er) eu }
@@ -60,7 +61,7 @@ module _ (offset : ℕ) (p : List ℕ) (labels : List (List ℕ)) (ds : List Def
 
     paired-step : (f : Match Tail) → f ≡ paired o → Passed f (v .at + 1) (v .last) (v .row) t
     unfolding storedAll
-    paired-step f e =
+    paired-step f e depth =
         rw e (record { at = ap (λ (x : Piece). x .end) (sym (at-close p (v .at) hc)); last = refl; row = omega arith; table = refl })
 
     -- a link opened after it already
@@ -73,7 +74,7 @@ module _ (offset : ℕ) (p : List ℕ) (labels : List (List ℕ)) (ds : List Def
     linked-step : (f : Match Tail) (x : Tail) → f ≡ linked o x → {n : ℕ} {r : Span} {u : List ℕ} → n ≡ lengthOf x → r ≡ linkRow offset ds o (v .at) x
         → u ≡ stored t (v .row) r → Passed f (v .at + 1 + n) o (v .row + 1) u
     unfolding storedAll
-    linked-step f x e en er eu =
+    linked-step f x e en er eu depth =
         rw e
         (record {
           at = rw (at-close p (v .at) hc, en);

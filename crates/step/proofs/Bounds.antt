@@ -34,10 +34,10 @@ use Rattle.tail.specs.declared.Way.the-variants as ways
 use Rattle.tail.specs.declared.ReadTail.{ReadTail}
 use Rattle.tail.specs.Ending.{labelsIn, shownBy, shown}
 use Rattle.link.specs.Reading.{linkRow, Names}
-use Rattle.paragraph.specs.Promise.{Pair, Bounds}
-use Rattle.paragraph.specs.declared.Walk.{Walk}
+use Rattle.step.specs.Promise.{Pair, Bounds}
+use Rattle.step.specs.declared.Walk.{Walk}
 use Rattle.link.proofs.LinkRows.{definition-in}
-use Rattle.paragraph.proofs.Pieces.{at-close}
+use Rattle.inline.proofs.Pieces.{at-close}
 
 abbrev pub PartTo : ℕ → Option Range → Type 0
 PartTo n none = Unit {0}

@@ -22,9 +22,9 @@ use Rattle.inline.proofs.Turns.{from-backticks}
 use Rattle.inline.proofs.PieceBounds.{closingRun-within, run-fits}
 use Rattle.ticks.proofs.Passing.{past-halts, past-some}
 use Rattle.inline.specs.ReadingRows.{rowFor}
-use Rattle.paragraph.specs.Promise.{BacktickAt}
-use Rattle.paragraph.specs.declared.Walk.{Walk}
-use Rattle.paragraph.proofs.Pieces.{no-escape}
+use Rattle.step.specs.Promise.{BacktickAt}
+use Rattle.step.specs.declared.Walk.{Walk}
+use Rattle.inline.proofs.Pieces.{no-escape}
 
 module _ (p : List ℕ) (w : Walk) (b : BacktickAt p w) (first : ℕ) (ea : first ≡ past backtick p (w .at)) where
   abbrev n : ℕ

@@ -1,11 +1,11 @@
 -- The run of backticks and the run that closes it make the piece.
-use Rattle.paragraph.proofs.CodeSteps.{first-after, first-inside, first-halts, first-some, text-here, code-here, code-ends, code-row, code-small}
-use Rattle.paragraph.proofs.Step.{step-quiet, step-code}
+use Rattle.step.proofs.CodeSteps.{first-after, first-inside, first-halts, first-some, text-here, code-here, code-ends, code-row, code-small}
+use Rattle.step.proofs.Step.{step-quiet, step-code}
 use native.Mathlib.Omega.{arith}
 use mathlib.Core.Path.{refl}
 use borrow.Author.Needs.{needs}
-use Rattle.paragraph.proofs.pass_backticks.Statement.{statement}
-use Rattle.paragraph.proofs.pass_backticks.Tie as tie
+use Rattle.step.proofs.pass_backticks.Statement.{statement}
+use Rattle.step.proofs.pass_backticks.Tie as tie
 
 backticks-end-requires : tie.Need-backticks-end-requires
 backticks-end-requires c κs = search needs
@@ -18,6 +18,12 @@ closing-run-lazy-requires c κs = (first-some (c .before .before .before .before
 
 enum-known-e : tie.Need-enum-known-e
 enum-known-e c = search needs
+
+enum-told : tie.Need-enum-told
+enum-told c = search needs
+
+returns : tie.Need-returns
+returns c = (((λ labels ds. step-quiet _ _ labels ds (c .before .before .before .before .before .before .before .args .w) _ _ (text-here (c .before .before .before .before .before .before .before .args .p .now) (c .before .before .before .before .before .before .before .args .w) (c .before .before .before .before .before .before .before .pre .0) (c .before .before .before .before .backticks-end .result) (c .before .before .before .before .backticks-end .ensures) (c .before .before .closing-run-lazy .ensures .0) (c .enum-told .given .1)) refl _), refl), c .before .before .closing-run-lazy .ensures .1)
 
 add-new : tie.Need-add-new
 add-new c = search needs
@@ -46,23 +52,14 @@ code-span-requires c κs = search needs
 store-requires : tie.Need-store-requires
 store-requires c κs = code-small (c .before .before .before .before .before .before .before .before .before .before .before .before .args .p .now) (c .before .before .before .before .before .before .before .before .before .before .before .before .args .w) (c .before .before .before .before .before .before .before .before .before .before .before .before .pre .0) (c .before .before .before .before .before .before .before .before .before .backticks-end .result) (c .before .before .before .before .before .before .before .before .before .backticks-end .ensures) (c .before .before .before .before .before .before .before .closing-run-lazy .ensures .0) (c .before .before .before .before .before .e .given .0 .0) (c .before .before .before .before .before .e .given .1) (c .before .before .before .before .before .before .before .before .before .before .before .before .args .start) (c .code-span .ensures) (c .before .before .before .new .ensures) (c .before .before .new2 .ensures) (c .before .before .before .before .before .before .before .before .before .before .before .before .pre .1 .0 .places)
 
-add-t17 : tie.Need-add-t17
-add-t17 c = omega (arith, c .before .before .before .before .before .before .before .before .before .before .before .before .before .before .before .pre .1 .0 .rows)
-
-enum-told : tie.Need-enum-told
-enum-told c = search needs
+add-v : tie.Need-add-v
+add-v c = omega (arith, c .before .before .before .before .before .before .before .before .before .before .before .before .before .before .before .before .pre .1 .0 .rows)
 
 same-length : tie.Need-same-length
 same-length c = search needs
 
-returns : tie.Need-returns
-returns c = (
-  (λ labels ds. step-code _ _ labels ds (c .before .before .before .before .before .before .before .before .before .before .before .before .before .before .before .args .w) _ (c .before .before .before .before .before .before .before .before .e .given .0 .0) (code-here (c .before .before .before .before .before .before .before .before .before .before .before .before .before .before .before .args .p .now) (c .before .before .before .before .before .before .before .before .before .before .before .before .before .before .before .args .w) (c .before .before .before .before .before .before .before .before .before .before .before .before .before .before .before .pre .0) (c .before .before .before .before .before .before .before .before .before .before .before .before .backticks-end .result) (c .before .before .before .before .before .before .before .before .before .before .before .before .backticks-end .ensures) (c .before .before .before .before .before .before .before .before .before .before .closing-run-lazy .ensures .0) (c .before .before .before .before .before .before .before .before .e .given .0 .0) (c .before .before .before .before .before .before .before .before .e .given .1)) (code-row (c .before .before .before .before .before .before .before .before .before .before .before .before .before .before .before .args .p .now) (c .before .before .before .before .before .before .before .before .before .before .before .before .before .before .before .args .w) (c .before .before .before .before .before .before .before .before .before .before .before .before .before .before .before .pre .0) (c .before .before .before .before .before .before .before .before .before .before .before .before .backticks-end .result) (c .before .before .before .before .before .before .before .before .before .before .before .before .backticks-end .ensures) (c .before .before .before .before .before .before .before .before .before .before .closing-run-lazy .ensures .0) (c .before .before .before .before .before .before .before .before .e .given .0 .0) (c .before .before .before .before .before .before .before .before .e .given .1) (c .before .before .before .before .before .before .before .before .before .before .before .before .before .before .before .args .start) (c .before .before .before .code-span .ensures) (c .before .before .before .before .before .before .new .ensures) (c .before .before .before .before .before .new2 .ensures) ds) (c .before .before .store .ensures)),
-  c .before .before .before .before .before .before .before .before .before .before .closing-run-lazy .ensures .1,
-)
-
 returns-2 : tie.Need-returns-2
-returns-2 c = ((λ labels ds. step-quiet _ _ labels ds (c .before .before .before .before .before .before .before .args .w) _ _ (text-here (c .before .before .before .before .before .before .before .args .p .now) (c .before .before .before .before .before .before .before .args .w) (c .before .before .before .before .before .before .before .pre .0) (c .before .before .before .before .backticks-end .result) (c .before .before .before .before .backticks-end .ensures) (c .before .before .closing-run-lazy .ensures .0) (c .enum-told .given .1)) refl), c .before .before .closing-run-lazy .ensures .1)
+returns-2 c = (((λ labels ds. step-code _ _ labels ds (c .before .before .before .before .before .before .before .before .before .before .before .before .before .before .before .before .args .w) _ (c .before .before .before .before .before .before .before .before .before .e .given .0 .0) (code-here (c .before .before .before .before .before .before .before .before .before .before .before .before .before .before .before .before .args .p .now) (c .before .before .before .before .before .before .before .before .before .before .before .before .before .before .before .before .args .w) (c .before .before .before .before .before .before .before .before .before .before .before .before .before .before .before .before .pre .0) (c .before .before .before .before .before .before .before .before .before .before .before .before .before .backticks-end .result) (c .before .before .before .before .before .before .before .before .before .before .before .before .before .backticks-end .ensures) (c .before .before .before .before .before .before .before .before .before .before .before .closing-run-lazy .ensures .0) (c .before .before .before .before .before .before .before .before .before .e .given .0 .0) (c .before .before .before .before .before .before .before .before .before .e .given .1)) (code-row (c .before .before .before .before .before .before .before .before .before .before .before .before .before .before .before .before .args .p .now) (c .before .before .before .before .before .before .before .before .before .before .before .before .before .before .before .before .args .w) (c .before .before .before .before .before .before .before .before .before .before .before .before .before .before .before .before .pre .0) (c .before .before .before .before .before .before .before .before .before .before .before .before .before .backticks-end .result) (c .before .before .before .before .before .before .before .before .before .before .before .before .before .backticks-end .ensures) (c .before .before .before .before .before .before .before .before .before .before .before .closing-run-lazy .ensures .0) (c .before .before .before .before .before .before .before .before .before .e .given .0 .0) (c .before .before .before .before .before .before .before .before .before .e .given .1) (c .before .before .before .before .before .before .before .before .before .before .before .before .before .before .before .before .args .start) (c .before .before .before .before .code-span .ensures) (c .before .before .before .before .before .before .before .new .ensures) (c .before .before .before .before .before .before .new2 .ensures) ds) (c .before .before .before .store .ensures) _), refl), c .before .before .before .before .before .before .before .before .before .before .before .closing-run-lazy .ensures .1)
 
 pub pass-backticks-spec : {M : Type 1} → statement M
 pass-backticks-spec =
@@ -72,6 +69,8 @@ pass-backticks-spec =
     sub-n
     closing-run-lazy-requires
     enum-known-e
+    enum-told
+    returns
     add-new
     add-new-2
     new-requires
@@ -81,8 +80,6 @@ pass-backticks-spec =
     new-requires-2
     code-span-requires
     store-requires
-    add-t17
-    enum-told
+    add-v
     same-length
-    returns
     returns-2)

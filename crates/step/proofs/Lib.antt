@@ -1,0 +1,4 @@
+pub mod Marks
+pub mod Bounds
+pub mod Step
+pub mod CodeSteps

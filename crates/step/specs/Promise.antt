@@ -1,0 +1,58 @@
+-- One step of the code through a paragraph, past one piece.
+use Prim.Native.Nat.{ℕ, _+_, _<_, _^_}
+use mathlib.Core.Path.{_≡_}
+use mathlib.Core.List.{List, [], _∷_, map}
+use lib.ListN.{length, getD}
+use Rattle.marking.specs.Spans as marked
+use Rattle.marking.specs.Reading.{Match, alone, foundClosing, pieceAt, placeAfter, lastAfter, newSpans}
+use Rattle.row.specs.declared.Definition.{Definition}
+use Rattle.inline.specs.Tails.{Tail}
+use Rattle.inline.specs.Reading.{grammar}
+use Rattle.inline.specs.ReadingRows.{rowFor}
+use Rattle.step.specs.Reading.{storedAll}
+use Rattle.step.specs.declared.Walk.{Walk}
+
+-- at a paragraph's start, with no bracket open
+abbrev pub fromRow : ℕ → Walk
+fromRow k = record { at = 0; last = 0; row = k; depth = 0 }
+
+-- a `[` at place o and a `]` at the walk's place
+pub record Pair (p : List ℕ) (w : Walk) (o : ℕ) : Type 0 where
+  pub open-at : getD p o 0 ≡ 91
+  pub close-at : getD p (w .at) 0 ≡ 93
+  pub before : o < w .at
+  pub inside : w .at < length p
+
+pub record BacktickAt (p : List ℕ) (w : Walk) : Type 0 where
+  pub inside : w .at < length p
+  pub tick : getD p (w .at) 0 ≡ 96
+
+-- the places of the paragraph in the note and the numbers of `count` definitions are 32-bit numbers, and a row more can be counted
+pub record Bounds (offset : ℕ) (p : List ℕ) (count : ℕ) (w : Walk) : Type 0 where
+  pub places : offset + length p < 2 ^ 32
+  pub definitions : count < 2 ^ 32
+  pub rows : w .row + 1 < 2 ^ 64
+
+module _ (offset : ℕ) (p : List ℕ) (labels : List (List ℕ)) (ds : List Definition) where
+  -- the spans that end with the piece at place `at`, by what it comes to
+  abbrev pub spansAt : ℕ → Match Tail → List (marked.Span Tail)
+  spansAt at f = newSpans (pieceAt (grammar p labels)) (pieceAt (grammar p labels) at) f
+
+  -- A step from v with the table t to w with the table u, past the piece at v's place, which comes to f.
+  pub record Steps (f : Match Tail) (v : Walk) (t : List ℕ) (w : Walk) (u : List ℕ) : Type 0 where
+    pub at : w .at ≡ placeAfter (grammar p labels) (pieceAt (grammar p labels) (v .at)) f
+    pub last : w .last ≡ lastAfter (v .last) f
+    pub row : w .row ≡ v .row + length (spansAt (v .at) f)
+    pub table : u ≡ storedAll t (v .row) (map (rowFor offset p ds) (spansAt (v .at) f))
+
+  -- what the `]` at v's place comes to with the `[` at place o
+  abbrev pub closing : Walk → ℕ → Match Tail
+  closing v o = foundClosing (λ a. grammar p labels .tailAt (grammar p labels .endAt a) (v .at)) (v .last) (o ∷ [])
+
+  -- past a `]` that closes a pair, where v counts its `[` no longer as open
+  abbrev pub Closes : ℕ → Walk → List ℕ → Walk → List ℕ → Type 0
+  Closes o v t w u = Steps (closing v o) v t w u × (w .depth ≡ v .depth)
+
+-- past a piece that is in no pair, whatever the definitions are
+abbrev pub Passes : ℕ → List ℕ → Walk → List ℕ → Walk → List ℕ → Type 0
+Passes offset p v t w u = ((labels : List (List ℕ)) (ds : List Definition) → Steps offset p labels ds alone v t w u) × (w .depth ≡ v .depth)

@@ -1,0 +1,133 @@
+// Past one piece of a paragraph: what it comes to, and the row of the span that ends with it.
+ghost use mathlib.Core.Path.{_≡_};
+ghost use Prim.Native.Nat.{_<_};
+ghost use lib.ListN.{length};
+ghost use Rattle.row.specs.Reading.{Fit, definitionsFrom};
+ghost use Rattle.parens.specs.Unclosed.{Prepared};
+ghost use Rattle.ticks.specs.LastRuns.{Ready};
+ghost use Rattle.tail.specs.Ending.{labelsIn};
+ghost use Rattle.step.specs.Promise.{fromRow, Pair, BacktickAt, Bounds, Closes, Passes};
+use row::Range;
+use scan::Found;
+use span::Span;
+use tail::Ending;
+
+// Where the reading stands: its place, the place of the last link's `[` (0 where there is none yet), the next span's row, and how
+// many brackets are open.
+pub struct Walk {
+    pub at: usize,
+    pub last: usize,
+    pub row: usize,
+    pub depth: usize,
+}
+
+impl Walk {
+    // At a paragraph's start, with no bracket open.
+    pub fn from_row(row: usize) -> Walk
+        ensures { λ r. ⌜ r ≡ fromRow row ⌝ }
+    {
+        Walk {
+            at: 0,
+            last: 0,
+            row,
+            depth: 0,
+        }
+    }
+}
+
+// Past the `]` at the walk's place, whose pair opens at `opening`.
+pub fn close_pair(
+    p: &[u8],
+    start: usize,
+    note: &[u8],
+    definitions: &[u32],
+    count: usize,
+    spans: &mut [u32],
+    w: Walk,
+    opening: usize,
+    marks: &mut [u8],
+) -> Walk
+    requires { ⌜ Pair (now p) w opening ⌝ }
+    requires { ⌜ Bounds start (now p) count w ⌝ }
+    requires { ⌜ Fit (now note) (now definitions) count ⌝ }
+    requires { ⌜ Prepared (now p) (w .at) (now marks) ⌝ }
+    ensures { λ r. ⌜ Closes start (now (p .entry)) (labelsIn (now (note .entry)) (now (definitions .entry)) count) (definitionsFrom (now (definitions .entry)) 0 count) opening w (now (spans .entry)) r (now (spans .exit)) ⌝ }
+    ensures { λ r. ⌜ Prepared (now (p .entry)) (r .at) (now (marks .exit)) ⌝ }
+{
+    let at = w.at;
+    let next = at + 1;
+    let mut v = w;
+    v.at = next;
+    if opening < w.last {
+        return v;
+    }
+    let text = &p[opening + 1..at];
+    let rest = &p[next..];
+    let Ending::With(t) = tail::tail_after(text, rest, note, definitions, count, &mut marks[next..])
+    else {
+        return v;
+    };
+    let row = link::link_row(start, opening, at, t, definitions, count);
+    span::store(spans, w.row, row);
+    v.at = next + t.length;
+    v.last = opening;
+    v.row = w.row + 1;
+    v
+}
+
+// Past the backticks at the walk's place: a code span, or plain text.
+fn pass_backticks(
+    p: &[u8],
+    start: usize,
+    spans: &mut [u32],
+    w: Walk,
+    runs: &mut [u32; ticks::LENGTHS],
+) -> Walk
+    requires { ⌜ BacktickAt (now p) w ⌝ }
+    requires { ⌜ Bounds start (now p) 0 w ⌝ }
+    requires { ⌜ Ready (now p) (now runs) ⌝ }
+    ensures { λ r. ⌜ Passes start (now (p .entry)) w (now (spans .entry)) r (now (spans .exit)) ⌝ }
+    ensures { λ r. ⌜ Ready (now (p .entry)) (now (runs .exit)) ⌝ }
+{
+    let at = w.at;
+    let mut v = w;
+    let first = ticks::backticks_end(p, at);
+    let n = first - at;
+    let Found::At(e) = ticks::closing_run_lazy(p, first, n, runs) else {
+        v.at = first;
+        return v;
+    };
+    let whole = Range::new(start + at, start + e);
+    let text = Range::new(start + first, start + (e - n));
+    span::store(spans, w.row, Span::code_span(whole, text));
+    v.at = e;
+    v.row = w.row + 1;
+    v
+}
+
+// Past a piece that is no bracket of a pair.
+pub fn pass_piece(
+    p: &[u8],
+    start: usize,
+    spans: &mut [u32],
+    w: Walk,
+    runs: &mut [u32; ticks::LENGTHS],
+) -> Walk
+    requires { ⌜ w .at < length (now p) ⌝ }
+    requires { ⌜ Bounds start (now p) 0 w ⌝ }
+    requires { ⌜ Ready (now p) (now runs) ⌝ }
+    ensures { λ r. ⌜ Passes start (now (p .entry)) w (now (spans .entry)) r (now (spans .exit)) ⌝ }
+    ensures { λ r. ⌜ Ready (now (p .entry)) (now (runs .exit)) ⌝ }
+{
+    let at = w.at;
+    if p[at] == 96 {
+        return pass_backticks(p, start, spans, w, runs);
+    }
+    let mut v = w;
+    if scan::escape_at(p, at) {
+        v.at = at + 2;
+        return v;
+    }
+    v.at = at + 1;
+    v
+}
