@@ -155,6 +155,11 @@ fn closed_brackets() -> Vec<Case> {
             "600 open, a link, 600 opened",
             open(600) + "[a](b)" + &open(600),
         ),
+        (
+            "70 pairs, the inmost a link",
+            open(70) + "a](b)" + &close(69),
+        ),
+        ("1,100 pairs, one after the other", "[]".repeat(1_100)),
     ]
     .map(|(name, note)| Case::of(name, note).tables(0, 20))
     .into();

@@ -9,7 +9,7 @@ use crate::places::{Lines, Place};
 
 /// "note longer than 32,768 bytes".
 const LONGEST_NOTE: u64 = 32_768;
-/// "over 1,024 brackets open at once".
+/// Refusal 4 is given where more are open at once.
 const MOST_BRACKETS_OPEN: u64 = 1_024;
 /// Where a refusal stands that has no place.
 const NO_PLACE: Place = Place { line: 1, column: 1 };
