@@ -1,12 +1,12 @@
 //! The answers that are known beforehand, against the proved library: the tests of `edges`
-//! (numbers counted by hand) and of `examples.rs` (the sources' pages) are run a second time, with
-//! the library's entries in the place of the second reader.
+//! (numbers counted by hand), of `examples.rs` (the sources' pages) and of `requests.rs` (an independent
+//! reader's answers) are run a second time, with the library's entries in the place of the second reader.
 
-// In both `host` means this one, so `host::second` is the module below.
+// In all of them `host` means this one, so `host::second` is the module below.
 extern crate host as package;
 extern crate self as host;
 
-pub use package::{cases, sources};
+pub use package::{cases, json, sources};
 
 /// The library in the second reader's form.
 pub mod second {
@@ -99,3 +99,5 @@ pub mod second {
 mod edges;
 #[path = "examples.rs"]
 mod examples;
+#[path = "requests.rs"]
+mod requests;

@@ -1,14 +1,10 @@
-//! Cases of the requests of document 02 that are in force, answered by an independent reader, against
-//! the library and the second reader.
+//! Cases of the requests of document 02 that are in force, answered by an independent reader, against the
+//! second reader.
 
-use host::entries::{self, Rendering};
 use host::json::{self, Value};
-use host::second;
+use host::second::{self, RenderAnswer};
 
 const FILE: &str = include_str!("data/requests.json");
-/// What lent memory holds before a call.
-const NUMBER: u32 = 0xA5A5_A5A5;
-const BYTE: u8 = 0xA5;
 
 /// A case of the page writer: what is lent, and what is wanted.
 struct Case {
@@ -17,10 +13,7 @@ struct Case {
     definition_numbers: usize,
     span_numbers: usize,
     page_bytes: usize,
-    answer: Rendering,
-    definition_rows: Vec<u32>,
-    span_rows: Vec<u32>,
-    page: Vec<u8>,
+    wanted: RenderAnswer,
 }
 
 fn cases() -> Vec<Case> {
@@ -32,23 +25,29 @@ fn cases() -> Vec<Case> {
 fn case(value: &Value) -> Case {
     assert_eq!(string(value, "entry"), "page", "{value:?}");
     let expect = value.get("expect").expect("what is wanted");
-    let count = |name| number(value, name) as usize;
     Case {
         name: string(value, "id") + " " + string(value, "what").as_str(),
         note: bytes(value, "note_hex"),
-        definition_numbers: count("def_numbers"),
-        span_numbers: count("span_numbers"),
-        page_bytes: count("page_bytes"),
-        answer: Rendering {
-            number: number(expect, "number") as u32,
-            value: number(expect, "value"),
-            definitions: number(expect, "definitions"),
-            spans: number(expect, "spans"),
-            length: number(expect, "html_length"),
-        },
-        definition_rows: rows(expect, "def_rows"),
-        span_rows: rows(expect, "span_rows"),
-        page: bytes(expect, "page_hex"),
+        definition_numbers: number(value, "def_numbers"),
+        span_numbers: number(value, "span_numbers"),
+        page_bytes: number(value, "page_bytes"),
+        wanted: wanted(expect),
+    }
+}
+
+/// What is wanted of a case; the part of a table or of the page that is unchanged is an empty list there.
+fn wanted(expect: &Value) -> RenderAnswer {
+    let number_of = number(expect, "number") as u32;
+    let given = |after: &[u32]| !after.contains(&number_of);
+    RenderAnswer {
+        number: number_of,
+        value: number(expect, "value"),
+        definition_count: number(expect, "definitions"),
+        span_count: number(expect, "spans"),
+        page_length: number(expect, "html_length"),
+        definition_rows: given(&[1, 2, 3]).then(|| rows(expect, "def_rows")),
+        span_rows: given(&[1, 2, 3, 4, 5]).then(|| rows(expect, "span_rows")),
+        page: given(&[1, 2, 3, 4, 5, 6]).then(|| bytes(expect, "page_hex")),
     }
 }
 
@@ -57,9 +56,9 @@ fn string(value: &Value, name: &str) -> String {
     member.unwrap_or_else(|| panic!("no {name}")).to_string()
 }
 
-fn number(value: &Value, name: &str) -> u64 {
+fn number(value: &Value, name: &str) -> usize {
     let member = value.get(name).and_then(Value::as_number);
-    member.unwrap_or_else(|| panic!("no {name}")) as u64
+    member.unwrap_or_else(|| panic!("no {name}")) as usize
 }
 
 fn bytes(value: &Value, name: &str) -> Vec<u8> {
@@ -68,68 +67,29 @@ fn bytes(value: &Value, name: &str) -> Vec<u8> {
     (0..digits.len()).step_by(2).map(byte).collect()
 }
 
-/// The numbers of all rows, one after the other.
-fn rows(value: &Value, name: &str) -> Vec<u32> {
+fn rows<const WIDTH: usize>(value: &Value, name: &str) -> Vec<[u32; WIDTH]> {
     let list = value.get(name).and_then(Value::as_array).expect("rows");
-    let row = |row: &Value| row.as_array().expect("a row").to_vec();
-    let numbers = list.iter().flat_map(row);
-    numbers
-        .map(|number| number.as_number().expect("a number") as u32)
-        .collect()
+    list.iter().map(row).collect()
 }
 
-/// Memory of this length that starts with this part, and holds what it held before after it.
-fn starting<T: Copy>(part: &[T], length: usize, before: T) -> Vec<T> {
-    let mut memory = part.to_vec();
-    memory.resize(length, before);
-    memory
+fn row<const WIDTH: usize>(value: &Value) -> [u32; WIDTH] {
+    let items = value.as_array().expect("a row");
+    assert_eq!(items.len(), WIDTH, "{value:?}");
+    std::array::from_fn(|place| items[place].as_number().expect("a number") as u32)
 }
 
 #[test]
-fn the_library_answers_as_wanted() {
+fn answers_as_wanted() {
+    let mut run = 0;
     for case in cases() {
-        let mut definitions = vec![NUMBER; case.definition_numbers];
-        let mut spans = vec![NUMBER; case.span_numbers];
-        let mut page = vec![BYTE; case.page_bytes];
-        let answer = entries::render(&case.note, &mut definitions, &mut spans, &mut page);
-        let name = &case.name;
-        assert_eq!(answer, case.answer, "{name}");
-        let wanted = starting(&case.definition_rows, case.definition_numbers, NUMBER);
-        assert_eq!(definitions, wanted, "{name}");
-        let wanted = starting(&case.span_rows, case.span_numbers, NUMBER);
-        assert_eq!(spans, wanted, "{name}");
-        let wanted = starting(&case.page, case.page_bytes, BYTE);
-        assert_eq!(page, wanted, "{name}");
-    }
-}
-
-#[test]
-fn the_second_reader_answers_as_wanted() {
-    for case in cases() {
+        run += 1;
         let answer = second::render(
             &case.note,
             case.definition_numbers,
             case.span_numbers,
             case.page_bytes,
         );
-        let given = Rendering {
-            number: answer.number,
-            value: answer.value as u64,
-            definitions: answer.definition_count as u64,
-            spans: answer.span_count as u64,
-            length: answer.page_length as u64,
-        };
-        let name = &case.name;
-        assert_eq!(given, case.answer, "{name}");
-        let rows = answer.definition_rows.unwrap_or_default().concat();
-        assert_eq!(rows, case.definition_rows, "{name}");
-        let rows = answer.span_rows.unwrap_or_default().concat();
-        assert_eq!(rows, case.span_rows, "{name}");
-        assert_eq!(answer.page.unwrap_or_default(), case.page, "{name}");
+        assert_eq!(answer, case.wanted, "{}", case.name);
     }
-}
-
-#[test]
-fn every_case_is_here() {
-    assert_eq!(cases().len(), 5);
+    assert_eq!(run, 5);
 }

@@ -33,10 +33,6 @@ sample-by : (s t u t′ u′ : List ℕ) (r : Reading) → readingOf s (definiti
     → readOne (sample s t u r t′ u′) ≡ sample s t u r t′ u′
 sample-by s t u t′ u′ r er et eu = rw (er, et, eu)
 
--- how many definitions a note of these parts has
-count-by : (s : List ℕ) {ds : List Definition} {ps : List Placed} → partsOf s ≡ (ds, ps) → length (definitions s) ≡ length ds
-count-by s e = ap (λ (x : List Definition × List Placed). length (x .0)) e
-
 deep-first : firstDeep deep ≡ some 1037
 unfolding firstDeep labels deepIn
 deep-first =
@@ -44,30 +40,27 @@ deep-first =
     ∙ ap (λ (o : Option ℕ). placeOr 8 o (deepIn (ascii "a" ∷ []) (openings 13 1025 ∷ []))) (samples-hold .shallow-first)
     ∙ deep-openings (ascii "a" ∷ []) 13 1025 []
 
-table-full : definitionTableOf (brackets 1024) 0 [] ≡ []
-unfolding rows filled
-table-full = ap (λ (x : List Definition × List Placed). definitionTable.filled (x .0) []) (holds .parts-1024)
+-- how many definitions a note of these parts has
+count-by : (s : List ℕ) {ds : List Definition} {ps : List Placed} → partsOf s ≡ (ds, ps) → length (definitions s) ≡ length ds
+count-by s e = ap (λ (x : List Definition × List Placed). length (x .0)) e
 
-table-over : definitionTableOf (brackets 1025) 4 [] ≡ []
-unfolding rows filled
-table-over = ap (λ (x : List Definition × List Placed). definitionTable.filled (x .0) []) (holds .parts-1025)
-
-table-deep : definitionTableOf deep 4 (lent 6) ≡ 1 ∷ 2 ∷ 5 ∷ 6 ∷ 0 ∷ 0 ∷ []
-unfolding rows filled
-table-deep = ap (λ (x : List Definition × List Placed). definitionTable.filled (x .0) (lent 6)) (samples-hold .deep-parts)
+-- and the table that holds their rows
+table-by : (s t : List ℕ) {ds : List Definition} {ps : List Placed} → partsOf s ≡ (ds, ps) → definitionTable.filled (definitions s) t ≡ definitionTable.filled ds t
+table-by s t e = ap (λ (x : List Definition × List Placed). definitionTable.filled (x .0) t) e
 
 no-rows : spanTableOf (brackets 1024) 0 [] ≡ []
 unfolding rows filled
 no-rows = ap (λ (x : List (List ℕ)). spansFilled x []) (note.edges .no-span)
 
 pub edges-hold : Hold edges
+unfolding rows filled
 edges-hold = rw (full, over, first)
   where
     full : readOne (sample (brackets 1024) [] [] (Read 0 0) [] []) ≡ sample (brackets 1024) [] [] (Read 0 0) [] []
-    full = sample-by (brackets 1024) [] [] [] [] (Read 0 0) (answer-by (brackets 1024) 0 0 0 0 none (samples-hold .good-1024) (count-by (brackets 1024) (holds .parts-1024)) (note.edges .shallow) (ap length (note.edges .no-span))) table-full no-rows
+    full = sample-by (brackets 1024) [] [] [] [] (Read 0 0) (answer-by (brackets 1024) 0 0 0 0 none (samples-hold .good-1024) (count-by (brackets 1024) (holds .parts-1024)) (note.edges .shallow) (ap length (note.edges .no-span))) (table-by (brackets 1024) [] (holds .parts-1024)) no-rows
 
     over : readOne (sample (brackets 1025) [] [] (Deep 1024) [] []) ≡ sample (brackets 1025) [] [] (Deep 1024) [] []
-    over = sample-by (brackets 1025) [] [] [] [] (Deep 1024) (answer-by (brackets 1025) 0 0 0 _ (some 1024) (samples-hold .good-1025) (count-by (brackets 1025) (holds .parts-1025)) (note.edges .deep) refl) table-over refl
+    over = sample-by (brackets 1025) [] [] [] [] (Deep 1024) (answer-by (brackets 1025) 0 0 0 _ (some 1024) (samples-hold .good-1025) (count-by (brackets 1025) (holds .parts-1025)) (note.edges .deep) refl) (table-by (brackets 1025) [] (holds .parts-1025)) refl
 
     first : readOne (sample deep (lent 6) [] (Deep 1037) (1 ∷ 2 ∷ 5 ∷ 6 ∷ 0 ∷ 0 ∷ []) []) ≡ sample deep (lent 6) [] (Deep 1037) (1 ∷ 2 ∷ 5 ∷ 6 ∷ 0 ∷ 0 ∷ []) []
-    first = sample-by deep (lent 6) [] (1 ∷ 2 ∷ 5 ∷ 6 ∷ 0 ∷ 0 ∷ []) [] (Deep 1037) (answer-by deep 1 0 1 _ (some 1037) (samples-hold .good-deep) (count-by deep (samples-hold .deep-parts)) deep-first refl) table-deep refl
+    first = sample-by deep (lent 6) [] (1 ∷ 2 ∷ 5 ∷ 6 ∷ 0 ∷ 0 ∷ []) [] (Deep 1037) (answer-by deep 1 0 1 _ (some 1037) (samples-hold .good-deep) (count-by deep (samples-hold .deep-parts)) deep-first refl) (table-by deep (lent 6) (samples-hold .deep-parts)) refl

@@ -32,7 +32,8 @@ use Rattle.parens.proofs.Parts.{part-whole}
 use Rattle.tail.specs.declared.Way.{Way}
 use Rattle.tail.specs.declared.Way.the-variants as ways
 use Rattle.tail.specs.declared.ReadTail.{ReadTail}
-use Rattle.tail.specs.Ending.{labelsIn, shownBy, shown}
+use Rattle.tail.specs.declared.Ending.{Ending}
+use Rattle.tail.specs.Ending.{labelsIn, shownBy, shown, shown?}
 use Rattle.link.specs.Reading.{linkRow, Names}
 use Rattle.step.specs.Promise.{Pair, Bounds}
 use Rattle.step.specs.declared.Walk.{Walk}
@@ -161,8 +162,13 @@ names-by count table n at size (ways.Shortcut k) b h = (b, h)
 
 -- ---- at a pair with a tail
 -- what follows the closing bracket at place c is the part of p from place c + 1 to its end
-pub tail-here : (p : List ℕ) (labels : List (List ℕ)) (o c : ℕ) → tailOf labels (take (c - o) (drop o p)) (take (length p - (c + 1)) (drop (c + 1) p)) (c + 1) ≡ tailAt p labels o c
+tail-here : (p : List ℕ) (labels : List (List ℕ)) (o c : ℕ) → tailOf labels (take (c - o) (drop o p)) (take (length p - (c + 1)) (drop (c + 1) p)) (c + 1) ≡ tailAt p labels o c
 tail-here p labels o c = ap (λ (l : List ℕ). tailOf labels (take (c - o) (drop o p)) l (c + 1)) (part-whole p (c + 1))
+
+-- so what the tail reader answered, r, is the tail of the pair
+pub tail-told : (p : List ℕ) (labels : List (List ℕ)) (o c : ℕ) {r x : Ending} → r ≡ x
+    → ((at : ℕ) → shown? at r ≡ tailOf labels (take (c - o) (drop o p)) (take (length p - (c + 1)) (drop (c + 1) p)) at) → shown? (c + 1) x ≡ tailAt p labels o c
+tail-told p labels o c e told = sym (ap (shown? (c + 1)) e) ∙ told (c + 1) ∙ tail-here p labels o c
 
 module _ (p note table : List ℕ) (start count o : ℕ) (w : Walk) (pair : Pair p w o) (bounds : Bounds start p count w) (fit : Fit note table count) (t : ReadTail)
     (e : some (shown (w .at + 1) t) ≡ tailAt p (labelsIn note table count) (o + 1) (w .at)) where
