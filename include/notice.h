@@ -13,7 +13,8 @@
  * them inside became one space. Backslashes are kept.
  *
  * Places are counted in bytes from the note's start, from 0. A part of the note is given by two places: its start, and its end,
- * which is the place of the first byte after it. A part that is absent is 0, 0.
+ * which is the place of the first byte after it. A part that is absent is 0, 0. The line of a place is one more than the LFs before
+ * it in the note, so that lines count from 1.
  *
  *
  * Memory
@@ -38,7 +39,7 @@
  *
  * Cost
  *
- * Stack: a call takes less than 44 KiB for itself, whatever the note (41,936 bytes at most, 384 for notice_resolve, 88 for
+ * Stack: a call takes less than 48 KiB for itself, whatever the note (46,304 bytes at most, 384 for notice_resolve, 88 for
  * notice_same_label). It was measured on the notes of the benchmark by running each entry on a stack that was marked before; the
  * library's tests do so again.
  *
@@ -100,11 +101,11 @@ extern "C" {
 #define NOTICE_NO_LABEL 8
 
 /*
- * A definition row is six numbers. Definition k, counted from 1, is the row at definitions + (k - 1) * NOTICE_DEFINITION_WIDTH.
+ * A definition row is seven numbers. Definition k, counted from 1, is the row at definitions + (k - 1) * NOTICE_DEFINITION_WIDTH.
  * All definitions stand there in the order of the note, repeats too. The label is without its brackets, the destination and
- * the title without their delimiters.
+ * the title without their delimiters. NOTICE_DEFINITION_LINE is the line of the label's opening bracket.
  */
-#define NOTICE_DEFINITION_WIDTH 6
+#define NOTICE_DEFINITION_WIDTH 7
 
 #define NOTICE_DEFINITION_LABEL_START 0
 #define NOTICE_DEFINITION_LABEL_END 1
@@ -112,14 +113,16 @@ extern "C" {
 #define NOTICE_DEFINITION_DESTINATION_END 3
 #define NOTICE_DEFINITION_TITLE_START 4
 #define NOTICE_DEFINITION_TITLE_END 5
+#define NOTICE_DEFINITION_LINE 6
 
 /*
- * A span row is ten numbers. The rows stand in increasing order of NOTICE_SPAN_END. A span runs from its opening bracket or
+ * A span row is eleven numbers. The rows stand in increasing order of NOTICE_SPAN_END. A span runs from its opening bracket or
  * backtick to the end of its tail or closing backticks. The text of a link lies between its two brackets, that of a code span
  * between the backtick strings. NOTICE_SPAN_DEFINITION is the number of the definition that a reference uses, from 1; 0 for a
- * code span and an inline link. The destination and the title of a reference are those of that definition.
+ * code span and an inline link. The destination and the title of a reference are those of that definition. NOTICE_SPAN_LINE is the
+ * line of the span's start.
  */
-#define NOTICE_SPAN_WIDTH 10
+#define NOTICE_SPAN_WIDTH 11
 
 #define NOTICE_SPAN_KIND 0
 #define NOTICE_SPAN_START 1
@@ -131,6 +134,7 @@ extern "C" {
 #define NOTICE_SPAN_DESTINATION_END 7
 #define NOTICE_SPAN_TITLE_START 8
 #define NOTICE_SPAN_TITLE_END 9
+#define NOTICE_SPAN_LINE 10
 
 /* The kinds of a span: `code`, [text](destination), [text][label], [label][], [label]. */
 #define NOTICE_CODE_SPAN 1

@@ -1,23 +1,29 @@
-/* Runs the entries of notice.h on the whole example of document 01, on every refusal and on empty buffers, and compares each
- * number and all lent memory with what document 01 says. Writes "ok", or what differs, and then exits with 1. */
+/* Runs the entries of notice.h on the whole example of document 01, on every refusal, on empty buffers and on a note of several
+ * lines, and compares each number and all lent memory with what documents 01 and 02 say. Writes "ok", or what differs, and then exits
+ * with 1. */
 #include "notice.h"
 
 #include <stdio.h>
 #include <string.h>
 
-/* What each lent number holds before a call: no place, kind or count of the notes here. */
+/* What each lent number holds before a call: no place, kind, count or line of the notes here. */
 #define GUARD 99999
 
-#define DEFINITIONS 8
-#define SPANS 13
+/* The numbers of a row of each table. */
+#define DEFINITION NOTICE_DEFINITION_WIDTH
+#define SPAN NOTICE_SPAN_WIDTH
+
+/* The numbers of each table, a row and part of another, and the bytes of a page. */
+#define DEFINITIONS (DEFINITION + 2)
+#define SPANS (SPAN + 3)
 #define PAGE 54
 
 /* What each byte of a page holds before a call: no byte of the example's page. */
 #define GUARD_BYTE 7
 
 static const char EXAMPLE[] = "[max]: /q2/max \"June\"\n\nUse [max].\n";
-static const uint32_t DEFINITION_ROW[NOTICE_DEFINITION_WIDTH] = {1, 4, 7, 14, 16, 20};
-static const uint32_t SPAN_ROW[NOTICE_SPAN_WIDTH] = {NOTICE_SHORTCUT, 27, 32, 28, 31, 1, 7, 14, 16, 20};
+static const uint32_t DEFINITION_ROW[] = {1, 4, 7, 14, 16, 20, 1};
+static const uint32_t SPAN_ROW[] = {NOTICE_SHORTCUT, 27, 32, 28, 31, 1, 7, 14, 16, 20, 3};
 static const char HTML[] = "<p>Use <a href=\"/q2/max\" title=\"June\">max</a>.</p>\n";
 
 static uint8_t room[NOTICE_LIMIT + 1];
@@ -66,8 +72,8 @@ static void read_case(const char *what, const uint8_t *note, size_t size, size_t
          number);
     same_answer(what, answer, value, counted, spans_counted);
     same(what, "the number after the answer", answer[3], GUARD);
-    same_table(what, "the definition table", definitions, DEFINITIONS, defined ? DEFINITION_ROW : NULL, NOTICE_DEFINITION_WIDTH);
-    same_table(what, "the span table", spans, SPANS, spanned ? SPAN_ROW : NULL, NOTICE_SPAN_WIDTH);
+    same_table(what, "the definition table", definitions, DEFINITIONS, defined ? DEFINITION_ROW : NULL, DEFINITION);
+    same_table(what, "the span table", spans, SPANS, spanned ? SPAN_ROW : NULL, SPAN);
 }
 
 /* The same with so many bytes of a page lent. `paged`: whether the page then has the HTML of the whole example. */
@@ -88,8 +94,8 @@ static void render_case(const char *what, const uint8_t *note, size_t size, size
     same_answer(what, answer, value, counted[0], counted[1]);
     same(what, "answer[3]", answer[3], counted[2]);
     same(what, "the number after the answer", answer[4], GUARD);
-    same_table(what, "the definition table", definitions, DEFINITIONS, defined ? DEFINITION_ROW : NULL, NOTICE_DEFINITION_WIDTH);
-    same_table(what, "the span table", spans, SPANS, spanned ? SPAN_ROW : NULL, NOTICE_SPAN_WIDTH);
+    same_table(what, "the definition table", definitions, DEFINITIONS, defined ? DEFINITION_ROW : NULL, DEFINITION);
+    same_table(what, "the span table", spans, SPANS, spanned ? SPAN_ROW : NULL, SPAN);
     for (i = 0; i < PAGE; i++) {
         same(what, "the page", page[i], paged && i < sizeof HTML - 1 ? (uint8_t)HTML[i] : GUARD_BYTE);
     }
@@ -111,22 +117,23 @@ static void same_label_case(const char *a, size_t a_len, const char *b, size_t b
 
 static void read_cases(const uint8_t *example, size_t size) {
     static const uint8_t bad[] = {'a', 0xc3, 0xa9, 0xc3};
-    read_case("exactly the rows needed", example, size, 6, 10, NOTICE_OK, 0, 1, 1, 1, 1);
+    read_case("exactly the rows needed", example, size, DEFINITION, SPAN, NOTICE_OK, 0, 1, 1, 1, 1);
     read_case("more than the rows needed", example, size, DEFINITIONS, SPANS, NOTICE_OK, 0, 1, 1, 1, 1);
-    read_case("no definition row", example, size, 0, 10, NOTICE_FEW_DEFINITION_ROWS, 1, 0, 0, 0, 0);
-    read_case("part of a definition row", example, size, 5, 0, NOTICE_FEW_DEFINITION_ROWS, 1, 0, 0, 0, 0);
-    read_case("no span row", example, size, 6, 0, NOTICE_FEW_SPAN_ROWS, 1, 0, 0, 1, 0);
-    read_case("part of a span row", example, size, DEFINITIONS, 9, NOTICE_FEW_SPAN_ROWS, 1, 0, 0, 1, 0);
+    read_case("no definition row", example, size, 0, SPAN, NOTICE_FEW_DEFINITION_ROWS, 1, 0, 0, 0, 0);
+    read_case("part of a definition row", example, size, DEFINITION - 1, 0, NOTICE_FEW_DEFINITION_ROWS, 1, 0, 0, 0, 0);
+    read_case("no span row", example, size, DEFINITION, 0, NOTICE_FEW_SPAN_ROWS, 1, 0, 0, 1, 0);
+    read_case("part of a span row", example, size, DEFINITIONS, SPAN - 1, NOTICE_FEW_SPAN_ROWS, 1, 0, 0, 1, 0);
     read_case("no note", NULL, 0, 0, 0, NOTICE_OK, 0, 0, 0, 0, 0);
-    read_case("bad text", bad, sizeof bad, 6, 10, NOTICE_BAD_TEXT, 3, 0, 0, 0, 0);
+    read_case("bad text", bad, sizeof bad, DEFINITION, SPAN, NOTICE_BAD_TEXT, 3, 0, 0, 0, 0);
     memset(room, 'a', sizeof room);
     read_case("the longest note", room, NOTICE_LIMIT, 0, 0, NOTICE_OK, 0, 0, 0, 0, 0);
-    read_case("a note too long", room, sizeof room, 6, 10, NOTICE_TOO_LONG, sizeof room, 0, 0, 0, 0);
+    read_case("a note too long", room, sizeof room, DEFINITION, SPAN, NOTICE_TOO_LONG, sizeof room, 0, 0, 0, 0);
     memset(room, '[', sizeof room);
     read_case("1,024 brackets", room, NOTICE_DEPTH, 0, 0, NOTICE_OK, 0, 0, 0, 0, 0);
-    read_case("1,025 brackets", room, NOTICE_DEPTH + 1, 6, 10, NOTICE_TOO_DEEP, NOTICE_DEPTH, 0, 0, 0, 0);
+    read_case("1,025 brackets", room, NOTICE_DEPTH + 1, DEFINITION, SPAN, NOTICE_TOO_DEEP, NOTICE_DEPTH, 0, 0, 0, 0);
     memcpy(room, example, size);
-    read_case("a definition, and 1,025 brackets", room, size + NOTICE_DEPTH + 1, 6, 10, NOTICE_TOO_DEEP, size + NOTICE_DEPTH, 0, 0, 1, 0);
+    size += NOTICE_DEPTH;
+    read_case("a definition, and 1,025 brackets", room, size + 1, DEFINITION, SPAN, NOTICE_TOO_DEEP, size, 0, 0, 1, 0);
 }
 
 static void render_cases(const uint8_t *example, size_t size) {
@@ -134,17 +141,38 @@ static void render_cases(const uint8_t *example, size_t size) {
     static const uint64_t one[] = {1, 1, sizeof HTML - 1};
     static const uint8_t bad[] = {'a', 13};
     same("the page", "its length", sizeof HTML - 1, 51);
-    render_case("a page of exactly its length", example, size, 6, 10, 51, NOTICE_OK, 0, one, 1, 1, 1);
+    render_case("a page of exactly its length", example, size, DEFINITION, SPAN, 51, NOTICE_OK, 0, one, 1, 1, 1);
     render_case("a page with bytes to spare", example, size, DEFINITIONS, SPANS, PAGE, NOTICE_OK, 0, one, 1, 1, 1);
-    render_case("a page a byte short", example, size, 6, 10, 50, NOTICE_SHORT_PAGE, 51, none, 1, 1, 0);
+    render_case("a page a byte short", example, size, DEFINITION, SPAN, 50, NOTICE_SHORT_PAGE, 51, none, 1, 1, 0);
     render_case("no page", example, size, DEFINITIONS, SPANS, 0, NOTICE_SHORT_PAGE, 51, none, 1, 1, 0);
-    render_case("a page, no span row", example, size, 6, 9, PAGE, NOTICE_FEW_SPAN_ROWS, 1, none, 1, 0, 0);
-    render_case("a page, no definition row", example, size, 5, 10, PAGE, NOTICE_FEW_DEFINITION_ROWS, 1, none, 0, 0, 0);
+    render_case("a page, no span row", example, size, DEFINITION, SPAN - 1, PAGE, NOTICE_FEW_SPAN_ROWS, 1, none, 1, 0, 0);
+    render_case("a page, no definition row", example, size, DEFINITION - 1, SPAN, PAGE, NOTICE_FEW_DEFINITION_ROWS, 1, none, 0, 0, 0);
     render_case("no note, no page", NULL, 0, 0, 0, 0, NOTICE_OK, 0, none, 0, 0, 0);
-    render_case("a page, bad text", bad, sizeof bad, 6, 10, PAGE, NOTICE_BAD_TEXT, 1, none, 0, 0, 0);
+    render_case("a page, bad text", bad, sizeof bad, DEFINITION, SPAN, PAGE, NOTICE_BAD_TEXT, 1, none, 0, 0, 0);
     memset(room, '[', sizeof room);
-    render_case("a page, a note too long", room, sizeof room, 6, 10, PAGE, NOTICE_TOO_LONG, sizeof room, none, 0, 0, 0);
-    render_case("a page, 1,025 brackets", room, NOTICE_DEPTH + 1, 6, 10, PAGE, NOTICE_TOO_DEEP, NOTICE_DEPTH, none, 0, 0, 0);
+    render_case("a page, a note too long", room, sizeof room, DEFINITION, SPAN, PAGE, NOTICE_TOO_LONG, sizeof room, none, 0, 0, 0);
+    render_case("a page, 1,025 brackets", room, NOTICE_DEPTH + 1, DEFINITION, SPAN, PAGE, NOTICE_TOO_DEEP, NOTICE_DEPTH, none, 0, 0, 0);
+}
+
+/* A definition and a link, each over lines, and two code spans, by the places and the lines of their starts. */
+static void line_cases(void) {
+    static const uint8_t note[] = "\n\n[a\nb]:\nc\n[d\n`e\nf`](g) `h`";
+    static const uint32_t starts[] = {14, 11, 24};
+    static const uint32_t lines[] = {7, 6, 8};
+    uint32_t definitions[DEFINITION];
+    uint32_t spans[3 * SPAN];
+    uint64_t answer[3];
+    size_t i;
+    guard(definitions, DEFINITION);
+    guard(spans, 3 * SPAN);
+    same("lines", "the number", notice_read(note, sizeof note - 1, definitions, DEFINITION, spans, 3 * SPAN, answer), NOTICE_OK);
+    same_answer("lines", answer, 0, 1, 3);
+    same("lines", "the label's start", definitions[NOTICE_DEFINITION_LABEL_START], 3);
+    same("lines", "the definition's line", definitions[NOTICE_DEFINITION_LINE], 3);
+    for (i = 0; i < 3; i++) {
+        same("lines", "a span's start", spans[i * SPAN + NOTICE_SPAN_START], starts[i]);
+        same("lines", "a span's line", spans[i * SPAN + NOTICE_SPAN_LINE], lines[i]);
+    }
 }
 
 static void resolve_cases(const uint8_t *example, size_t size) {
@@ -182,8 +210,11 @@ int main(void) {
     uint8_t example[sizeof EXAMPLE - 1];
     memcpy(example, EXAMPLE, sizeof example);
     same("the whole example", "its length", sizeof example, 34);
+    same("a definition row", "its width", sizeof DEFINITION_ROW / sizeof DEFINITION_ROW[0], DEFINITION);
+    same("a span row", "its width", sizeof SPAN_ROW / sizeof SPAN_ROW[0], SPAN);
     read_cases(example, sizeof example);
     render_cases(example, sizeof example);
+    line_cases();
     resolve_cases(example, sizeof example);
     same_label_cases(example);
     if (memcmp(example, EXAMPLE, sizeof example) != 0) {

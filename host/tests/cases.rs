@@ -2,7 +2,10 @@
 
 use std::path::Path;
 
-use host::cases::{all, comparison, container, enquiry, expected, tables_and_page, Case};
+use host::cases::{
+    all, comparison, container, enquiry, expected, tables_and_page, Case, DEFINITION_ROOM,
+    PAGE_ROOM, SPAN_ROOM,
+};
 use host::second::{Reader, Wrong};
 
 /// A file of the program.
@@ -19,6 +22,25 @@ fn stored_input_is_the_container_of_the_cases() {
         container(&cases) == stored("stdin"),
         "the container differs"
     );
+}
+
+/// The program's own constants say how much it can lend; no case asks for more.
+#[test]
+fn the_program_has_room_for_every_case() {
+    let program = String::from_utf8(stored("src/main.rt")).expect("a program in UTF-8");
+    for (name, room) in [
+        ("DEFINITION_ROOM", DEFINITION_ROOM),
+        ("SPAN_ROOM", SPAN_ROOM),
+        ("PAGE_ROOM", PAGE_ROOM),
+    ] {
+        let line = format!("const {name}: usize = {room};\n");
+        assert!(program.contains(&line), "not there: {line}");
+    }
+    for case in all() {
+        assert!(case.definition_numbers <= DEFINITION_ROOM, "{}", case.name);
+        assert!(case.span_numbers <= SPAN_ROOM, "{}", case.name);
+        assert!(case.page_bytes <= PAGE_ROOM, "{}", case.name);
+    }
 }
 
 #[test]

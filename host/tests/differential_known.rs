@@ -13,6 +13,7 @@ pub mod second {
     use package::entries;
     pub use package::second::{
         number, DefinitionRow, ReadAnswer, RenderAnswer, ResolveAnswer, SpanRow,
+        DEFINITION_ROW_WIDTH, SPAN_ROW_WIDTH,
     };
 
     /// A number and a byte that stand in no row and no page.

@@ -23,8 +23,8 @@ const NOTE: &[u8] = b"[max]: /q2/max \"June\"\n\nUse [max].\n";
 
 #[test]
 fn one_item_a_line() {
-    let wanted = "definition 1 4 7 14 16 20\n\
-                  span 5 27 32 28 31 1 7 14 16 20\n\
+    let wanted = "definition 1 4 7 14 16 20 1\n\
+                  span 5 27 32 28 31 1 7 14 16 20 3\n\
                   page \"<p>Use <a href=\\\"/q2/max\\\" title=\\\"June\\\">max</a>.</p>\\n\"\n";
     assert_eq!(rows(&[], NOTE), (wanted.to_string(), Some(0)));
 }
@@ -42,7 +42,7 @@ fn refusals() {
     assert_eq!(
         rows(&[], deep.as_bytes()),
         (
-            "definition 1 2 5 6 0 0\nrefusal 4 1032\n".to_string(),
+            "definition 1 2 5 6 0 0 1\nrefusal 4 1032\n".to_string(),
             Some(1)
         )
     );

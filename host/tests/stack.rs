@@ -12,7 +12,7 @@ use host::generate::bench_notes;
 use host::second::{DEFINITION_ROW_WIDTH, LONGEST_LABEL, LONGEST_NOTE, SPAN_ROW_WIDTH};
 
 /// What `include/notice.h` promises for a call.
-const PROMISED: usize = 44 * 1024;
+const PROMISED: usize = 48 * 1024;
 /// The memory of a stack, which has room for more than the promise.
 const STACK: usize = 1 << 20;
 const PAGE: usize = 4096;

@@ -6,14 +6,25 @@ use mathlib.Core.Path.{_≡_, refl, sym, ap, _∙_, subst}
 use mathlib.Core.Option.{Option, none, some, Option·some-injective}
 use mathlib.Core.List.{List}
 use mathlib.Core.Bool.{Bool, true, false}
-use lib.ListN.{getElem?}
+use lib.ListN.{getD, getElem?}
+use Rattle.scan.specs.Member.{In}
+use Rattle.line.specs.Line.{lineOf}
 use Rattle.marking.proofs.Lists.{at-inside}
-use Rattle.span.specs.Row.{rowAt}
+use Rattle.span.specs.declared.Span.{Span}
+use Rattle.span.specs.Row.{numbersOn, numbers, rowAt}
+use Rattle.span.specs.Reading.{lineIn}
 use Rattle.note.specs.Reading.{spanRows}
+use Rattle.note.proofs.Fits.{rows-fit}
 use Rattle.page.specs.Reading.{firstRow}
 use Rattle.cursor.specs.Cursor.{waits, Behind, Next, passing, Finds}
 use Rattle.cursor.specs.Spanned.{Spanned}
 use Rattle.cursor.proofs.Cursors.{still-behind}
+
+-- a row of the note's is that of its span in the note, its line too
+pub row-of-note : (s u : List ℕ) (k : ℕ) (x : Span) → In (rowAt u k) (spanRows s) → numbersOn (lineIn u k) x ≡ rowAt u k → numbers s x ≡ rowAt u k
+row-of-note s u k x i e =
+    let line : lineIn u k ≡ lineOf s (x .whole .start) = subst (λ (r : List ℕ). getD r 10 0 ≡ lineOf s (getD r 1 0)) (sym e) (rows-fit s (rowAt u k) i .line) in
+    ap (λ (n : ℕ). numbersOn n x) (sym line) ∙ e
 
 module _ {s u : List ℕ} {count : ℕ} (d : Spanned s u count) where
   -- ---- the table's rows are the note's

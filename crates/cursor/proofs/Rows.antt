@@ -7,15 +7,15 @@ use mathlib.Core.List.{List}
 use mathlib.Core.Bool.{Bool, true, false}
 use borrow.Author.Tests.{le-leb, lt-leb, lt-ltb, le-ltb}
 use Rattle.span.specs.declared.Span.{Span}
-use Rattle.span.specs.Row.{numbers, wholeRows, rowAt}
-use Rattle.span.specs.Reading.{spanAt}
+use Rattle.span.specs.Row.{numbersOn, wholeRows, rowAt}
+use Rattle.span.specs.Reading.{spanAt, lineIn}
 use Rattle.span.proofs.Read.{numbers-at}
 use Rattle.page.specs.Reading.{rowStart, textEnd}
 use Rattle.cursor.specs.Cursor.{waits, Finds, nextPlace, rowPlace}
 
 -- ---- a row as it is read
-pub row-read : (u : List ℕ) {count k : ℕ} → count ≤ wholeRows u → k < count → {x : Span} → x ≡ spanAt u k → numbers x ≡ rowAt u k
-row-read u {k = k} w h e = ap numbers e ∙ numbers-at u k (omega arith)
+pub row-read : (u : List ℕ) {count k : ℕ} → count ≤ wholeRows u → k < count → {x : Span} → x ≡ spanAt u k → numbersOn (lineIn u k) x ≡ rowAt u k
+row-read u {k = k} w h e = ap (numbersOn (lineIn u k)) e ∙ numbers-at u k (omega arith)
 
 -- ---- where a row calls for something
 pub at-start : (r : List ℕ) {i : ℕ} → i ≤ rowStart r → nextPlace r i ≡ rowStart r

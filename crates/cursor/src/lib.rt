@@ -1,14 +1,14 @@
 // The next row of the span table that calls for something on the page. A pass over the note's bytes keeps two cursors into the table, one
 // to the next code span and one to the next link, which may be open; neither goes back.
 ghost use mathlib.Core.Path.{_≡_};
-ghost use Prim.Native.Nat.{_≤_};
-ghost use Rattle.span.specs.Row.{numbers, wholeRows};
+ghost use Prim.Native.Nat.{ℕ, _≤_};
+ghost use Rattle.span.specs.Row.{numbersOn, wholeRows};
 ghost use Rattle.cursor.specs.Cursor.{waits, Finds, nextPlace, rowPlace};
 use span::Span;
 
-// Whether a row is a code span that does not start before `at`, or else a link whose text does not end before it.
+// Whether a row is a code span that does not start before `at`, or else a link whose text does not end before it, whatever its line.
 fn row_waits(row: Span, code: bool, at: usize) -> bool
-    ensures { λ r. ⌜ r ≡ waits code at (numbers row) ⌝ }
+    ensures { λ r. ⌜ ((line : ℕ) → r ≡ waits code at (numbersOn line row)) ⌝ }
 {
     if code {
         return (row.kind == Span::CODE_SPAN) & (at <= row.whole.start);
@@ -31,9 +31,9 @@ pub fn next_row(spans: &[u32], count: usize, start: usize, code: bool, at: usize
     k
 }
 
-// Where a row that waits at `at` next calls for something.
+// Where a row that waits at `at` next calls for something, whatever its line.
 fn next_place(row: Span, at: usize) -> usize
-    ensures { λ r. ⌜ r ≡ nextPlace (numbers row) at ⌝ }
+    ensures { λ r. ⌜ ((line : ℕ) → r ≡ nextPlace (numbersOn line row) at) ⌝ }
 {
     if at <= row.whole.start {
         return row.whole.start;

@@ -64,7 +64,7 @@ module _ (note label : List ℕ) where
         label-inside = let p = lies .places in omega (arith, p .apart, p .destination, p .ends, p .inside)
 
         pub less : length note - c′ .at < length note - c .at
-        less = omega (arith, here .onward, here .within .ordered, here .within .inside)
+        less = omega (arith, here .starts, here .onward, here .within .ordered, here .within .inside)
 
         -- v is whether its label is equal
         module _ {v : Bool} (tells : v ≡ matches (bytesOf note (d .label)) label) where

@@ -42,18 +42,18 @@ code-text-read p q text t =
     let to : q .end - run backtick (drop (q .start) p) ≡ text .end = omega (arith, t .to) in
     rw (from, to) refl
 
-pub row-read : (offset : ℕ) (p : List ℕ) (ds : List Definition) {x : Span Tail} {row : List ℕ} → RowIs offset p ds x row → spanRow offset p ds x ≡ row
-row-read offset p ds (code-span {q} {text} t) = ap (λ (r : Range). numbers (codeSpanRow (fromNote offset (wholeOf (codeSpan q))) (fromNote offset r))) (code-text-read p q text t)
-row-read offset p ds inline-link = refl
-row-read offset p ds full-reference = refl
-row-read offset p ds collapsed-reference = refl
-row-read offset p ds shortcut-reference = refl
+pub row-read : (s : List ℕ) (offset : ℕ) (p : List ℕ) (ds : List Definition) {x : Span Tail} {row : List ℕ} → RowIs s offset p ds x row → spanRow s offset p ds x ≡ row
+row-read s offset p ds (code-span {q} {text} t) = ap (λ (r : Range). numbers s (codeSpanRow (fromNote offset (wholeOf (codeSpan q))) (fromNote offset r))) (code-text-read p q text t)
+row-read s offset p ds inline-link = refl
+row-read s offset p ds full-reference = refl
+row-read s offset p ds collapsed-reference = refl
+row-read s offset p ds shortcut-reference = refl
 
-rows-read : (offset : ℕ) (p : List ℕ) (ds : List Definition) {xs : List (Span Tail)} {rows : List (List ℕ)} → Forall₂ (RowIs offset p ds) xs rows
-    → rows ≡ map (spanRow offset p ds) xs
-rows-read offset p ds Forall₂·nil = refl
-rows-read offset p ds (Forall₂·cons {a = x} {b = row} h t) =
-    ap₂ {A = List ℕ} {B = List (List ℕ)} {C = List (List ℕ)} _∷_ (sym (row-read offset p ds h)) (rows-read offset p ds t)
+rows-read : (s : List ℕ) (offset : ℕ) (p : List ℕ) (ds : List Definition) {xs : List (Span Tail)} {rows : List (List ℕ)} → Forall₂ (RowIs s offset p ds) xs rows
+    → rows ≡ map (spanRow s offset p ds) xs
+rows-read s offset p ds Forall₂·nil = refl
+rows-read s offset p ds (Forall₂·cons {a = x} {b = row} h t) =
+    ap₂ {A = List ℕ} {B = List (List ℕ)} {C = List (List ℕ)} _∷_ (sym (row-read s offset p ds h)) (rows-read s offset p ds t)
 
 module _ (p : List ℕ) (labels : List (List ℕ)) (m : Marking Tail) (c : Meets (rules p labels) m) where
   pub code-text-is : (q : Piece) → SpanOf m (codeSpan q) → CodeText p q (textOf p (codeSpan q))
@@ -61,8 +61,8 @@ module _ (p : List ℕ) (labels : List (List ℕ)) (m : Marking Tail) (c : Meets
       let b = code-text p labels m c q o in
       rw (b .text-is) (record { count = b .count; opening-string = b .opening-string; from = refl; to = omega (arith, b .apart) })
 
-  module _ (offset : ℕ) (ds : List Definition) where
-    row-made : (x : Span Tail) → SpanOf m x → RowIs offset p ds x (spanRow offset p ds x)
+  module _ (s : List ℕ) (offset : ℕ) (ds : List Definition) where
+    row-made : (x : Span Tail) → SpanOf m x → RowIs s offset p ds x (spanRow s offset p ds x)
     row-made (codeSpan q) o = code-span (code-text-is q o)
     row-made (linkSpan o d (inline n a b)) l = inline-link
     row-made (linkSpan o d (full n k)) l = full-reference
@@ -70,22 +70,22 @@ module _ (p : List ℕ) (labels : List (List ℕ)) (m : Marking Tail) (c : Meets
     row-made (linkSpan o d (shortcut k)) l = shortcut-reference
 
     -- for the spans of a marking that meets the conditions the two say the same
-    pub row-iff : (x : Span Tail) → SpanOf m x → (row : List ℕ) → RowIs offset p ds x row ↔ (spanRow offset p ds x ≡ row)
-    row-iff x o row = ((λ r. row-read offset p ds r), (λ e. subst (RowIs offset p ds x) e (row-made x o)))
+    pub row-iff : (x : Span Tail) → SpanOf m x → (row : List ℕ) → RowIs s offset p ds x row ↔ (spanRow s offset p ds x ≡ row)
+    row-iff x o row = ((λ r. row-read s offset p ds r), (λ e. subst (RowIs s offset p ds x) e (row-made x o)))
 
-    rows-made : (xs : List (Span Tail)) → ((k : ℕ) (x : Span Tail) → getElem? xs k ≡ some x → SpanOf m x) → Forall₂ (RowIs offset p ds) xs (map (spanRow offset p ds) xs)
+    rows-made : (xs : List (Span Tail)) → ((k : ℕ) (x : Span Tail) → getElem? xs k ≡ some x → SpanOf m x) → Forall₂ (RowIs s offset p ds) xs (map (spanRow s offset p ds) xs)
     rows-made [] f = Forall₂·nil
     rows-made (x ∷ xs) f = Forall₂·cons (row-made x (f 0 x refl)) (rows-made xs (λ k y e. f (suc k) y e))
 
-module _ (offset : ℕ) (p : List ℕ) (labels : List (List ℕ)) (ds : List Definition) where
+module _ (s : List ℕ) (offset : ℕ) (p : List ℕ) (labels : List (List ℕ)) (ds : List Definition) where
   -- the rows that are read are those of the marking, and there are no other
-  pub rows-are-read : (m : Marking Tail) → Meets (rules p labels) m → RowsAre offset p labels ds m (spanRows offset p labels ds)
+  pub rows-are-read : (m : Marking Tail) → Meets (rules p labels) m → RowsAre s offset p labels ds m (spanRows s offset p labels ds)
   rows-are-read m c =
       let are : SpansAre (rules p labels) m (spans (grammar p labels)) = its-spans-are-read p labels m c in
-      record { spans = spans (grammar p labels); are = are; made = rows-made p labels m c offset ds (spans (grammar p labels)) (λ k x e. are .no-others x (k, e)) }
+      record { spans = spans (grammar p labels); are = are; made = rows-made p labels m c s offset ds (spans (grammar p labels)) (λ k x e. are .no-others x (k, e)) }
 
-  pub no-other-rows : (m : Marking Tail) → Meets (rules p labels) m → (rows : List (List ℕ)) → RowsAre offset p labels ds m rows → rows ≡ spanRows offset p labels ds
-  no-other-rows m c rows r = rows-read offset p ds (r .made) ∙ ap (map (spanRow offset p ds)) (no-other-span-list p labels m c (r .spans) (r .are))
+  pub no-other-rows : (m : Marking Tail) → Meets (rules p labels) m → (rows : List (List ℕ)) → RowsAre s offset p labels ds m rows → rows ≡ spanRows s offset p labels ds
+  no-other-rows m c rows r = rows-read s offset p ds (r .made) ∙ ap (map (spanRow s offset p ds)) (no-other-span-list p labels m c (r .spans) (r .are))
 
   abbrev spans-are : SpansAre (rules p labels) (the-marking p labels) (spans (grammar p labels))
   spans-are = its-spans-are-read p labels (the-marking p labels) (the-marking-meets p labels)
@@ -94,22 +94,22 @@ module _ (offset : ℕ) (p : List ℕ) (labels : List (List ℕ)) (ds : List Def
   end-is (codeSpan q) = refl
   end-is (linkSpan o c t) = refl
 
-  pub ends-increase : EndsIncrease (spanRows offset p labels ds)
+  pub ends-increase : EndsIncrease (spanRows s offset p labels ds)
   ends-increase k x y h h′ =
-      let u = mapped (spanRow offset p ds) (spans (grammar p labels)) k x h in
-      let v = mapped (spanRow offset p ds) (spans (grammar p labels)) (suc k) y h′ in
+      let u = mapped (spanRow s offset p ds) (spans (grammar p labels)) k x h in
+      let v = mapped (spanRow s offset p ds) (spans (grammar p labels)) (suc k) y h′ in
       rw (← u .is, ← v .is) (further (u .from) (v .from) (spans-are .in-order k (u .from) (v .from) (u .at) (v .at)))
     where
       further : (a b : Span Tail) → EndsBefore (rules p labels) a b → offset + wholeOf a .end < offset + wholeOf b .end
       further a b l = omega (arith, end-is a, end-is b)
 
-  pub row-within : (k : ℕ) (x : List ℕ) → getElem? (spanRows offset p labels ds) k ≡ some x → RowWithin offset (length p) x
+  pub row-within : (k : ℕ) (x : List ℕ) → getElem? (spanRows s offset p labels ds) k ≡ some x → RowWithin offset (length p) x
   row-within k x h =
-      let u = mapped (spanRow offset p ds) (spans (grammar p labels)) k x h in
+      let u = mapped (spanRow s offset p ds) (spans (grammar p labels)) k x h in
       let w = span-within p labels (the-marking p labels) (the-marking-meets p labels) (u .from) (spans-are .no-others (u .from) (k, u .at)) in
       rw (← u .is) (placed (u .from) w)
     where
-      placed : (a : Span Tail) → SpanWithin p a → RowWithin offset (length p) (spanRow offset p ds a)
+      placed : (a : Span Tail) → SpanWithin p a → RowWithin offset (length p) (spanRow s offset p ds a)
       placed a w =
           record {
             wide = refl;

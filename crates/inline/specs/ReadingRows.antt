@@ -27,14 +27,14 @@ abbrev pub textOf : List ℕ → marked.Span Tail → Range
 textOf p (codeSpan q) = let n = run backtick (drop (q .start) p) in range (q .start + n) (q .end - n)
 textOf p (linkSpan o c t) = linkText o c
 
--- the row of a span of the paragraph p, which starts at place `offset` of the note; ds are the definitions
+-- a span of the paragraph p, which starts at place `offset` of the note s, and its row; ds are the definitions
 abbrev pub rowFor : ℕ → List ℕ → List Definition → marked.Span Tail → Span
 rowFor offset p ds x =
     let t : Target = targetOf offset ds x in span (kindNumber x) (fromNote offset (wholeOf x)) (fromNote offset (textOf p x)) (t .number) (t .destination) (t .title)
 
-abbrev pub spanRow : ℕ → List ℕ → List Definition → marked.Span Tail → List ℕ
-spanRow offset p ds x = numbers (rowFor offset p ds x)
+abbrev pub spanRow : List ℕ → ℕ → List ℕ → List Definition → marked.Span Tail → List ℕ
+spanRow s offset p ds x = numbers s (rowFor offset p ds x)
 
 -- of all spans that are read, in order
-abbrev pub spanRows : ℕ → List ℕ → List (List ℕ) → List Definition → List (List ℕ)
-spanRows offset p labels ds = map (spanRow offset p ds) (spans (grammar p labels))
+abbrev pub spanRows : List ℕ → ℕ → List ℕ → List (List ℕ) → List Definition → List (List ℕ)
+spanRows s offset p labels ds = map (spanRow s offset p ds) (spans (grammar p labels))

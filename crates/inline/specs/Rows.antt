@@ -59,8 +59,8 @@ targetOf offset ds (linkSpan o c (full n k)) = defined ds k
 targetOf offset ds (linkSpan o c (collapsed k)) = defined ds k
 targetOf offset ds (linkSpan o c (shortcut k)) = defined ds k
 
--- The row that document 01 makes of a code span or a link of the paragraph p, at place `offset` of a note whose definitions are ds
-module _ (offset : ℕ) (p : List ℕ) (ds : List Definition) where
+-- The row that document 01 makes of a code span or a link of the paragraph p, at place `offset` of the note s, whose definitions are ds
+module _ (s : List ℕ) (offset : ℕ) (p : List ℕ) (ds : List Definition) where
   abbrev wholeAt : Span Tail → Range
   wholeAt x = fromNote offset (wholeOf x)
 
@@ -68,21 +68,21 @@ module _ (offset : ℕ) (p : List ℕ) (ds : List Definition) where
   textAt o c = fromNote offset (linkText o c)
 
   pub data RowIs : Span Tail → List ℕ → Type 0 where
-    code-span : {q : Piece} {text : Range} → CodeText p q text → RowIs (codeSpan q) (numbers (codeSpanRow (wholeAt (codeSpan q)) (fromNote offset text)))
+    code-span : {q : Piece} {text : Range} → CodeText p q text → RowIs (codeSpan q) (numbers s (codeSpanRow (wholeAt (codeSpan q)) (fromNote offset text)))
     inline-link : {o c : Piece} {n : ℕ} {d t : Option Range}
-        → RowIs (linkSpan o c (inline n d t)) (numbers (inlineRow (wholeAt (linkSpan o c (inline n d t))) (textAt o c) (fromNote? offset d) (fromNote? offset t)))
+        → RowIs (linkSpan o c (inline n d t)) (numbers s (inlineRow (wholeAt (linkSpan o c (inline n d t))) (textAt o c) (fromNote? offset d) (fromNote? offset t)))
     full-reference : {o c : Piece} {n k : ℕ}
-        → RowIs (linkSpan o c (full n k)) (numbers (fullRow (wholeAt (linkSpan o c (full n k))) (textAt o c) k (defined ds k .destination) (defined ds k .title)))
+        → RowIs (linkSpan o c (full n k)) (numbers s (fullRow (wholeAt (linkSpan o c (full n k))) (textAt o c) k (defined ds k .destination) (defined ds k .title)))
     collapsed-reference : {o c : Piece} {k : ℕ}
-        → RowIs (linkSpan o c (collapsed k)) (numbers (collapsedRow (wholeAt (linkSpan o c (collapsed k))) (textAt o c) k (defined ds k .destination) (defined ds k .title)))
+        → RowIs (linkSpan o c (collapsed k)) (numbers s (collapsedRow (wholeAt (linkSpan o c (collapsed k))) (textAt o c) k (defined ds k .destination) (defined ds k .title)))
     shortcut-reference : {o c : Piece} {k : ℕ}
-        → RowIs (linkSpan o c (shortcut k)) (numbers (shortcutRow (wholeAt (linkSpan o c (shortcut k))) (textAt o c) k (defined ds k .destination) (defined ds k .title)))
+        → RowIs (linkSpan o c (shortcut k)) (numbers s (shortcutRow (wholeAt (linkSpan o c (shortcut k))) (textAt o c) k (defined ds k .destination) (defined ds k .title)))
 
--- "the rows that this section makes of the links and code spans in the markings": the rows of a paragraph at place `offset`
-pub record RowsAre (offset : ℕ) (p : List ℕ) (labels : List (List ℕ)) (ds : List Definition) (m : Marking Tail) (rows : List (List ℕ)) : Type 0 where
+-- "the rows that this section makes of the links and code spans in the markings": the rows of a paragraph at place `offset` of the note s
+pub record RowsAre (s : List ℕ) (offset : ℕ) (p : List ℕ) (labels : List (List ℕ)) (ds : List Definition) (m : Marking Tail) (rows : List (List ℕ)) : Type 0 where
   pub spans : List (Span Tail)
   pub are : SpansAre (rules p labels) m spans
-  pub made : Forall₂ (RowIs offset p ds) spans rows
+  pub made : Forall₂ (RowIs s offset p ds) spans rows
 
 -- ---- the order of rows
 abbrev pub rowEnd : List ℕ → ℕ

@@ -2,10 +2,12 @@
 use Prim.Native.Nat.{ℕ, _+_}
 use Prim.Native.String.{String}
 use mathlib.Core.Path.{_≡_, refl}
-use mathlib.Core.List.{List, [], _∷_, map}
+use mathlib.Core.List.{List, [], _∷_, _++_, map}
+use lib.ListN.{replicate}
 use mathlib.Core.Bool.{Bool, true, false, _&&_}
 use lib.Dec.{eqb}
 use Rattle.scan.specs.Ascii.{ascii}
+use Rattle.line.specs.Line.{feeds, lineOf}
 use Rattle.scan.specs.Reading.{scan as scanBytes, run, closingStep, closing}
 use Rattle.text.specs.Sequences.{onesFrom, leadingOnes, sequenceLength, characters}
 use Rattle.label.specs.Reading.{inky, fitsAfter, fits, labelEnd, unclosed, isLabel}
@@ -20,7 +22,7 @@ use Rattle.inline.specs.ReadingPieces.{countAfter, runStep, runDone, clo
 use Rattle.inline.specs.ReadingTails.{closedAt, afterDestination, inlineOf, labelAfter, textTail, tailOf}
 use Rattle.inline.specs.ReadingRows.{spanRows}
 
--- a paragraph at place 1000 of the note, the labels of the definitions, and the rows
+-- a paragraph at place 1000 of the note, on its third line; the labels of the definitions; and the rows
 pub record Sample : Type 0 where
   pub text : String
   pub labels : List String
@@ -34,36 +36,41 @@ abbrev definitionsFrom : ℕ → List String → List Definition
 definitionsFrom h [] = []
 definitionsFrom h (l ∷ ls) = record { label = absent; destination = range (h + 10) (h + 20); title = range (h + 30) (h + 40) } ∷ definitionsFrom (h + 100) ls
 
+abbrev note : List ℕ → List ℕ
+note p = replicate 998 97 ++ 10 ∷ 10 ∷ p
+
 abbrev rowsOf : Sample → List (List ℕ)
-rowsOf s = spanRows 1000 (ascii (s .text)) (map ascii (s .labels)) (definitionsFrom 100 (s .labels))
+rowsOf s = spanRows (note (ascii (s .text))) 1000 (ascii (s .text)) (map ascii (s .labels)) (definitionsFrom 100 (s .labels))
 
 abbrev pub samples : List Sample
 samples =
     -- inline
-    sample "[link]()" [] ((2 ∷ 1000 ∷ 1008 ∷ 1001 ∷ 1005 ∷ 0 ∷ 0 ∷ 0 ∷ 0 ∷ 0 ∷ []) ∷ [])
-    ∷ sample "[a](<b)c>)" [] ((2 ∷ 1000 ∷ 1010 ∷ 1001 ∷ 1002 ∷ 0 ∷ 1005 ∷ 1008 ∷ 0 ∷ 0 ∷ []) ∷ [])
-    ∷ sample "[link](foo\\)\\:)" [] ((2 ∷ 1000 ∷ 1015 ∷ 1001 ∷ 1005 ∷ 0 ∷ 1007 ∷ 1014 ∷ 0 ∷ 0 ∷ []) ∷ [])
+    sample "[link]()" [] ((2 ∷ 1000 ∷ 1008 ∷ 1001 ∷ 1005 ∷ 0 ∷ 0 ∷ 0 ∷ 0 ∷ 0 ∷ 3 ∷ []) ∷ [])
+    ∷ sample "[a](<b)c>)" [] ((2 ∷ 1000 ∷ 1010 ∷ 1001 ∷ 1002 ∷ 0 ∷ 1005 ∷ 1008 ∷ 0 ∷ 0 ∷ 3 ∷ []) ∷ [])
+    ∷ sample "[link](foo\\)\\:)" [] ((2 ∷ 1000 ∷ 1015 ∷ 1001 ∷ 1005 ∷ 0 ∷ 1007 ∷ 1014 ∷ 0 ∷ 0 ∷ 3 ∷ []) ∷ [])
     ∷ sample "[link](/my uri)" [] []
     ∷ sample "[foo](not a link)" [] []
     ∷ sample "[a](<b>\"t\")" [] []
-    ∷ sample "[a](b \"t\")" [] ((2 ∷ 1000 ∷ 1010 ∷ 1001 ∷ 1002 ∷ 0 ∷ 1004 ∷ 1005 ∷ 1007 ∷ 1008 ∷ []) ∷ [])
-    ∷ sample "[a](<> \"\")" [] ((2 ∷ 1000 ∷ 1010 ∷ 1001 ∷ 1002 ∷ 0 ∷ 1005 ∷ 1005 ∷ 1008 ∷ 1008 ∷ []) ∷ [])
-    ∷ sample "[a](\nb\n'c'\n)" [] ((2 ∷ 1000 ∷ 1012 ∷ 1001 ∷ 1002 ∷ 0 ∷ 1005 ∷ 1006 ∷ 1008 ∷ 1009 ∷ []) ∷ [])
+    ∷ sample "[a](b \"t\")" [] ((2 ∷ 1000 ∷ 1010 ∷ 1001 ∷ 1002 ∷ 0 ∷ 1004 ∷ 1005 ∷ 1007 ∷ 1008 ∷ 3 ∷ []) ∷ [])
+    ∷ sample "[a](<> \"\")" [] ((2 ∷ 1000 ∷ 1010 ∷ 1001 ∷ 1002 ∷ 0 ∷ 1005 ∷ 1005 ∷ 1008 ∷ 1008 ∷ 3 ∷ []) ∷ [])
+    ∷ sample "[a](\nb\n'c'\n)" [] ((2 ∷ 1000 ∷ 1012 ∷ 1001 ∷ 1002 ∷ 0 ∷ 1005 ∷ 1006 ∷ 1008 ∷ 1009 ∷ 3 ∷ []) ∷ [])
     -- references
-    ∷ sample "[foo](not a link)" ("foo" ∷ []) ((5 ∷ 1000 ∷ 1005 ∷ 1001 ∷ 1004 ∷ 1 ∷ 110 ∷ 120 ∷ 130 ∷ 140 ∷ []) ∷ [])
-    ∷ sample "[foo [bar](/uri)][ref]" ("ref" ∷ []) ((2 ∷ 1005 ∷ 1016 ∷ 1006 ∷ 1009 ∷ 0 ∷ 1011 ∷ 1015 ∷ 0 ∷ 0 ∷ []) ∷ (5 ∷ 1017 ∷ 1022 ∷ 1018 ∷ 1021 ∷ 1 ∷ 110 ∷ 120 ∷ 130 ∷ 140 ∷ []) ∷ [])
-    ∷ sample "[foo][bar][baz]" ("baz" ∷ []) ((3 ∷ 1005 ∷ 1015 ∷ 1006 ∷ 1009 ∷ 1 ∷ 110 ∷ 120 ∷ 130 ∷ 140 ∷ []) ∷ [])
-    ∷ sample "[foo][bar][baz]" ("baz" ∷ "bar" ∷ []) ((3 ∷ 1000 ∷ 1010 ∷ 1001 ∷ 1004 ∷ 2 ∷ 210 ∷ 220 ∷ 230 ∷ 240 ∷ []) ∷ (5 ∷ 1010 ∷ 1015 ∷ 1011 ∷ 1014 ∷ 1 ∷ 110 ∷ 120 ∷ 130 ∷ 140 ∷ []) ∷ [])
-    ∷ sample "[foo][bar][baz]" ("baz" ∷ "foo" ∷ []) ((3 ∷ 1005 ∷ 1015 ∷ 1006 ∷ 1009 ∷ 1 ∷ 110 ∷ 120 ∷ 130 ∷ 140 ∷ []) ∷ [])
-    ∷ sample "[foo][ref\\[]" ("ref\\[" ∷ []) ((3 ∷ 1000 ∷ 1012 ∷ 1001 ∷ 1004 ∷ 1 ∷ 110 ∷ 120 ∷ 130 ∷ 140 ∷ []) ∷ [])
-    ∷ sample "[foo][]" ("Foo" ∷ "foo" ∷ []) ((4 ∷ 1000 ∷ 1007 ∷ 1001 ∷ 1004 ∷ 1 ∷ 110 ∷ 120 ∷ 130 ∷ 140 ∷ []) ∷ [])
-    ∷ sample "[foo][ ]" ("foo" ∷ []) ((5 ∷ 1000 ∷ 1005 ∷ 1001 ∷ 1004 ∷ 1 ∷ 110 ∷ 120 ∷ 130 ∷ 140 ∷ []) ∷ [])
+    ∷ sample "[foo](not a link)" ("foo" ∷ []) ((5 ∷ 1000 ∷ 1005 ∷ 1001 ∷ 1004 ∷ 1 ∷ 110 ∷ 120 ∷ 130 ∷ 140 ∷ 3 ∷ []) ∷ [])
+    ∷ sample "[foo [bar](/uri)][ref]" ("ref" ∷ []) ((2 ∷ 1005 ∷ 1016 ∷ 1006 ∷ 1009 ∷ 0 ∷ 1011 ∷ 1015 ∷ 0 ∷ 0 ∷ 3 ∷ []) ∷ (5 ∷ 1017 ∷ 1022 ∷ 1018 ∷ 1021 ∷ 1 ∷ 110 ∷ 120 ∷ 130 ∷ 140 ∷ 3 ∷ []) ∷ [])
+    ∷ sample "[foo][bar][baz]" ("baz" ∷ []) ((3 ∷ 1005 ∷ 1015 ∷ 1006 ∷ 1009 ∷ 1 ∷ 110 ∷ 120 ∷ 130 ∷ 140 ∷ 3 ∷ []) ∷ [])
+    ∷ sample "[foo][bar][baz]" ("baz" ∷ "bar" ∷ []) ((3 ∷ 1000 ∷ 1010 ∷ 1001 ∷ 1004 ∷ 2 ∷ 210 ∷ 220 ∷ 230 ∷ 240 ∷ 3 ∷ []) ∷ (5 ∷ 1010 ∷ 1015 ∷ 1011 ∷ 1014 ∷ 1 ∷ 110 ∷ 120 ∷ 130 ∷ 140 ∷ 3 ∷ []) ∷ [])
+    ∷ sample "[foo][bar][baz]" ("baz" ∷ "foo" ∷ []) ((3 ∷ 1005 ∷ 1015 ∷ 1006 ∷ 1009 ∷ 1 ∷ 110 ∷ 120 ∷ 130 ∷ 140 ∷ 3 ∷ []) ∷ [])
+    ∷ sample "[foo][ref\\[]" ("ref\\[" ∷ []) ((3 ∷ 1000 ∷ 1012 ∷ 1001 ∷ 1004 ∷ 1 ∷ 110 ∷ 120 ∷ 130 ∷ 140 ∷ 3 ∷ []) ∷ [])
+    ∷ sample "[foo][]" ("Foo" ∷ "foo" ∷ []) ((4 ∷ 1000 ∷ 1007 ∷ 1001 ∷ 1004 ∷ 1 ∷ 110 ∷ 120 ∷ 130 ∷ 140 ∷ 3 ∷ []) ∷ [])
+    ∷ sample "[foo][ ]" ("foo" ∷ []) ((5 ∷ 1000 ∷ 1005 ∷ 1001 ∷ 1004 ∷ 1 ∷ 110 ∷ 120 ∷ 130 ∷ 140 ∷ 3 ∷ []) ∷ [])
     -- code spans
-    ∷ sample "[foo`][ref]`" ("ref" ∷ []) ((1 ∷ 1004 ∷ 1012 ∷ 1005 ∷ 1011 ∷ 0 ∷ 0 ∷ 0 ∷ 0 ∷ 0 ∷ []) ∷ [])
-    ∷ sample "``a`b``" [] ((1 ∷ 1000 ∷ 1007 ∷ 1002 ∷ 1005 ∷ 0 ∷ 0 ∷ 0 ∷ 0 ∷ 0 ∷ []) ∷ [])
-    ∷ sample "`a``b`" [] ((1 ∷ 1000 ∷ 1006 ∷ 1001 ∷ 1005 ∷ 0 ∷ 0 ∷ 0 ∷ 0 ∷ 0 ∷ []) ∷ [])
-    ∷ sample "\\``a`" [] ((1 ∷ 1002 ∷ 1005 ∷ 1003 ∷ 1004 ∷ 0 ∷ 0 ∷ 0 ∷ 0 ∷ 0 ∷ []) ∷ [])
+    ∷ sample "[foo`][ref]`" ("ref" ∷ []) ((1 ∷ 1004 ∷ 1012 ∷ 1005 ∷ 1011 ∷ 0 ∷ 0 ∷ 0 ∷ 0 ∷ 0 ∷ 3 ∷ []) ∷ [])
+    ∷ sample "``a`b``" [] ((1 ∷ 1000 ∷ 1007 ∷ 1002 ∷ 1005 ∷ 0 ∷ 0 ∷ 0 ∷ 0 ∷ 0 ∷ 3 ∷ []) ∷ [])
+    ∷ sample "`a``b`" [] ((1 ∷ 1000 ∷ 1006 ∷ 1001 ∷ 1005 ∷ 0 ∷ 0 ∷ 0 ∷ 0 ∷ 0 ∷ 3 ∷ []) ∷ [])
+    ∷ sample "\\``a`" [] ((1 ∷ 1002 ∷ 1005 ∷ 1003 ∷ 1004 ∷ 0 ∷ 0 ∷ 0 ∷ 0 ∷ 0 ∷ 3 ∷ []) ∷ [])
     ∷ sample "`a\\``" [] []
+    -- "the line .. of the span's start": the code span stands on the next line, and the link around it starts before
+    ∷ sample "[a\n`b\n`](c)" [] ((1 ∷ 1003 ∷ 1007 ∷ 1004 ∷ 1006 ∷ 0 ∷ 0 ∷ 0 ∷ 0 ∷ 0 ∷ 4 ∷ []) ∷ (2 ∷ 1000 ∷ 1011 ∷ 1001 ∷ 1007 ∷ 0 ∷ 1009 ∷ 1010 ∷ 0 ∷ 0 ∷ 3 ∷ []) ∷ [])
     ∷ []
 
 abbrev sameNumbers : List ℕ → List ℕ → Bool
@@ -83,5 +90,5 @@ hold [] = true
 hold (s ∷ more) = sameRows (rowsOf s) (s .rows) && hold more
 
 pub samples-hold : hold samples ≡ true
-unfolding scanBytes run closingStep closing onesFrom leadingOnes sequenceLength characters inky fitsAfter fits labelEnd unclosed isLabel spaceFrom depthAfter rawStep rawRun judged destinationOf closer titleOf fold spaced formOf compared equals matches spans finish scan scanStep scanFound scanStart countAfter runStep runDone closingRun pieceFrom closedAt afterDestination inlineOf matchFrom labelAfter textTail tailOf
+unfolding feeds lineOf scanBytes run closingStep closing onesFrom leadingOnes sequenceLength characters inky fitsAfter fits labelEnd unclosed isLabel spaceFrom depthAfter rawStep rawRun judged destinationOf closer titleOf fold spaced formOf compared equals matches spans finish scan scanStep scanFound scanStart countAfter runStep runDone closingRun pieceFrom closedAt afterDestination inlineOf matchFrom labelAfter textTail tailOf
 samples-hold = refl

@@ -1,7 +1,9 @@
 -- What single bytes tell where labels are compared in step: two that are unlike decide, and two that are the same are passed.
-use Prim.Native.Nat.{ℕ, _+_, _<_}
+use Prim.Native.Nat.{ℕ, zero, suc, _+_, _<_}
+use native.Mathlib.Numerals.{add-one}
+use native.Mathlib.Decide.{decLt}
 use native.Mathlib.Omega.{arith}
-use mathlib.Core.Path.{_≡_, refl, sym, ap, _∙_}
+use mathlib.Core.Path.{_≡_, refl, sym, ap, _∙_, subst}
 use mathlib.Core.List.{List}
 use mathlib.Core.Bool.{Bool, true, false, Bool·beq, not, _&&_, _||_}
 use borrow.Author.Tests.{eq-eqb, ne-eqb, eqb-true, eqb-false, leb-true, leb-false, ltb-true, not-true}
@@ -12,7 +14,7 @@ use Rattle.scan.specs.Byte.{blank}
 use Rattle.scan.proofs.Scan.{peek-inside, past-stop}
 use Rattle.scan.specs.Reading.{past}
 use Rattle.matching.specs.Form.{fold}
-use Rattle.matching.specs.Reading.{equals, matches, above, unlike, same, gap, agree}
+use Rattle.matching.specs.Reading.{equals, matches, above, unlike, same, SameStart, gap, agree}
 use Rattle.matching.proofs.Turn.{formFrom, begins, differ, agreed}
 
 -- ---- bytes that are unlike when folded: the labels do not agree there, wherever they end and whatever blanks stand before
@@ -92,3 +94,20 @@ module _ (a b : List ℕ) (i j : ℕ) {v : Bool} (ev : v ≡ same a b i j) (h : 
 
   pub same-on : {r : Bool} → equals (formFrom a i) (formFrom b j) ≡ r → equals (formFrom a (i + 1)) (formFrom b (j + 1)) ≡ r
   same-on inv = agreed a b i j i j (past-here a i high) (past-here b j (rw (← one) high)) (sym agrees) inv refl same-left
+
+-- ---- all of them at the start
+module _ (a b : List ℕ) where
+  from-start : (n : ℕ) → ((k : ℕ) → k < n → same a b k k ≡ true) → equals (formFrom a n) (formFrom b n) ≡ matches a b
+  from-start zero f = begins a b
+  from-start (suc n) f = rw (← add-one n) (same-on a b n n refl (f n (omega arith)) (from-start n (λ k h. f k (omega arith))))
+
+  pub start-on : {n : ℕ} → SameStart a b n → equals (formFrom a n) (formFrom b n) ≡ matches a b
+  start-on {n} e = from-start n (e .each)
+
+  -- one place more
+  pub each-more : (n : ℕ) → ((k : ℕ) → k < n → same a b k k ≡ true) → {v : Bool} → v ≡ same a b n n → v ≡ true → (k : ℕ) → k < n + 1 → same a b k k ≡ true
+  each-more n f ev h k l = cases (decLt k n)
+    where
+      cases : Dec (k < n) → same a b k k ≡ true
+      cases (yes z) = f k z
+      cases (no z) = let e : n ≡ k = omega arith in subst (λ (i : ℕ). same a b i i ≡ true) e (sym ev ∙ h)

@@ -1,5 +1,6 @@
 -- The compared form of a label by reading it from the front, whether two labels match, and what comparing them in step asks at a place.
-use Prim.Native.Nat.{ℕ}
+use Prim.Native.Nat.{ℕ, _<_}
+use mathlib.Core.Path.{_≡_}
 use mathlib.Core.List.{List, [], _∷_}
 use mathlib.Core.Bool.{Bool, true, false, Bool·beq, not, _&&_, _||_}
 use lib.ListN.{length, getD}
@@ -55,3 +56,8 @@ unlike x y = (above x && above y) && not (eqb (fold x) (fold y))
 -- whether one and the same byte, no blank, stands in a at i and in b at j
 unfoldable pub same : List ℕ → List ℕ → ℕ → ℕ → Bool
 same a b i j = not (leb (length a) i || leb (length b) j) && (eqb (getD a i 0) (getD b j 0) && above (getD a i 0))
+
+-- one and the same byte, no blank, stands at each of the first n places of a and b, and not at the next
+pub record SameStart (a b : List ℕ) (n : ℕ) : Type 0 where
+  pub each : (k : ℕ) → k < n → same a b k k ≡ true
+  pub stops : same a b n n ≡ false

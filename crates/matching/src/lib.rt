@@ -4,7 +4,7 @@ ghost use mathlib.Core.Path.{_≡_};
 ghost use Rattle.scan.specs.Byte.{blank};
 ghost use Rattle.scan.specs.Reading.{past};
 ghost use Rattle.matching.specs.Form.{fold};
-ghost use Rattle.matching.specs.Reading.{gap, agree, unlike, same, matches};
+ghost use Rattle.matching.specs.Reading.{gap, agree, unlike, same, SameStart, matches};
 
 // A to Z as a to z.
 fn folded(b: u8) -> u8
@@ -83,6 +83,17 @@ pub fn same_at(a: &[u8], b: &[u8], i: usize, j: usize) -> bool
     (x == y) & (32 < x)
 }
 
+// How many bytes at the start of both are the same, and no blanks.
+pub fn same_start(a: &[u8], b: &[u8]) -> usize
+    ensures { λ r. ⌜ SameStart (now (a .entry)) (now (b .entry)) r ⌝ }
+{
+    let mut n = 0;
+    while same_at(a, b, n, n) {
+        n += 1;
+    }
+    n
+}
+
 // Whether two labels are equal.
 pub fn same_label(a: &[u8], b: &[u8]) -> bool
     ensures { λ r. ⌜ r ≡ matches (now (a .entry)) (now (b .entry)) ⌝ }
@@ -90,8 +101,8 @@ pub fn same_label(a: &[u8], b: &[u8]) -> bool
     if are_unlike(scan::peek(a, 0), scan::peek(b, 0)) {
         return false;
     }
-    let mut i = 0;
-    let mut j = 0;
+    let mut i = same_start(a, b);
+    let mut j = i;
     loop {
         if same_at(a, b, i, j) {
             i += 1;

@@ -1,4 +1,4 @@
--- Every span row has ten numbers; its places lie within the note, and its definition number is that of a definition.
+-- Every span row has eleven numbers; its places lie within the note, its definition number is that of a definition, and its line that of its start.
 use Prim.Native.Nat.{ℕ, _+_, _≤_, _<_}
 use native.Mathlib.Omega.{arith}
 use mathlib.Core.Path.{refl, sym, subst}
@@ -59,7 +59,7 @@ module _ (s : List ℕ) where
 
   module _ (q : Placed) (w : Inside s q) (m : Marking Tail) (c : MarkingOf s (definitions s) q m) where
     abbrev row : Span Tail → List ℕ
-    row x = spanRow (q .at) (q .bytes) (definitions s) x
+    row x = spanRow s (q .at) (q .bytes) (definitions s) x
 
     abbrev numbered : (x : Span Tail) → SpanOf m x → targetOf (q .at) (definitions s) x .number ≤ length (labelsOf s (definitions s))
     numbered = number-defined (q .bytes) (labelsOf s (definitions s)) m c (q .at) (definitions s)
@@ -92,6 +92,7 @@ module _ (s : List ℕ) where
           destination-end = t .destination .end;
           title-start = t .title .start;
           title-end = t .title .end;
+          line = refl;
         }
 
   pub rows-fit : (row : List ℕ) → In row (spanRows s) → RowFits s (definitions s) row

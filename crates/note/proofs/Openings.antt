@@ -103,6 +103,6 @@ module _ (labels : List (List ℕ)) (at n : ℕ) (ps : List Placed) where
   unfolding deepIn
   deep-openings = ap (λ (o : Option ℕ). placeOr at o (deepIn labels ps)) (over-openings n labels depthLimit)
 
-  pub rows-openings : (ds : List Definition) → rowsIn labels ds (openings at n ∷ ps) ≡ rowsIn labels ds ps
+  pub rows-openings : (s : List ℕ) (ds : List Definition) → rowsIn s labels ds (openings at n ∷ ps) ≡ rowsIn s labels ds ps
   unfolding rowsIn
-  rows-openings ds = ap (λ (xs : List (Span Tail)). map (spanRow at (brackets n) ds) xs ++ rowsIn labels ds ps) (no-spans n labels)
+  rows-openings s ds = ap (λ (xs : List (Span Tail)). map (spanRow s at (brackets n) ds) xs ++ rowsIn s labels ds ps) (no-spans n labels)

@@ -43,18 +43,18 @@ rise (z ∷ xs) r zero (suc j) x y h e d =
 rise (z ∷ xs) r (suc i) (suc j) x y h e d = rise xs (λ k. r (suc k)) i j x y (omega arith) e d
 
 module _ (s : List ℕ) (ls : List (List ℕ)) (ds : List Definition) where
-  ends-after : {from : ℕ} {ps : List Placed} → Ordered s from ps → (row : List ℕ) → In row (rowsIn ls ds ps) → from < rowEnd row
+  ends-after : {from : ℕ} {ps : List Placed} → Ordered s from ps → (row : List ℕ) → In row (rowsIn s ls ds ps) → from < rowEnd row
   unfolding rowsIn
   ends-after done row i = absurd (in-none row i)
   ends-after (next {from} {p = q} {ps = ps} h w o) row i =
-      ⊎-elim (λ a. omega (arith, row-ends (q .at) (q .bytes) ls ds row a .0)) (λ b. omega (arith, ends-after o row b)) (in-either (paragraph.spanRows (q .at) (q .bytes) ls ds) (rowsIn ls ds ps) row i)
+      ⊎-elim (λ a. omega (arith, row-ends s (q .at) (q .bytes) ls ds row a .0)) (λ b. omega (arith, ends-after o row b)) (in-either (paragraph.spanRows s (q .at) (q .bytes) ls ds) (rowsIn s ls ds ps) row i)
 
-  increase : {from : ℕ} {ps : List Placed} → Ordered s from ps → EndsIncrease (rowsIn ls ds ps)
+  increase : {from : ℕ} {ps : List Placed} → Ordered s from ps → EndsIncrease (rowsIn s ls ds ps)
   unfolding rowsIn
   increase done = λ k x y e d. absurd (Option·none-ne-some x e)
   increase (next {p = q} {ps = ps} h w o) =
-      join (paragraph.spanRows (q .at) (q .bytes) ls ds) (rowsIn ls ds ps) (ends-increase (q .at) (q .bytes) ls ds) (increase o)
-      (λ x y a b. omega (arith, row-ends (q .at) (q .bytes) ls ds x a .1, ends-after o y b))
+      join (paragraph.spanRows s (q .at) (q .bytes) ls ds) (rowsIn s ls ds ps) (ends-increase s (q .at) (q .bytes) ls ds) (increase o)
+      (λ x y a b. omega (arith, row-ends s (q .at) (q .bytes) ls ds x a .1, ends-after o y b))
 
 module _ (s : List ℕ) where
   -- the ends of the note's span rows increase

@@ -31,7 +31,7 @@ pub record FromSpan (s : List ℕ) (row : List ℕ) : Type 0 where
   pub meets : MarkingOf s (definitions s) paragraph marking
   pub span : Span Tail
   pub of-marking : SpanOf marking span
-  pub row-is : spanRow (paragraph .at) (paragraph .bytes) (definitions s) span ≡ row
+  pub row-is : spanRow s (paragraph .at) (paragraph .bytes) (definitions s) span ≡ row
   pub within : RowWithin (paragraph .at) (length (paragraph .bytes)) row
 
 pub each-inside : {s : List ℕ} {from : ℕ} {ps : List Placed} → Ordered s from ps → (k : ℕ) (q : Placed) → getElem? ps k ≡ some q → Inside s q
@@ -44,7 +44,7 @@ from-span s row i =
     let r = in-rows-iff s (marked s) row .0 i in
     let q = r .paragraph in
     let c : MarkingOf s (definitions s) q (r .marking) = pair-at (marked s .each) (r .index) q (r .marking) (r .paragraph-at) (r .marking-at) in
-    let is : spanRow (q .at) (q .bytes) (definitions s) (r .span) ≡ row = row-read (q .at) (q .bytes) (definitions s) (r .row-is) in
+    let is : spanRow s (q .at) (q .bytes) (definitions s) (r .span) ≡ row = row-read s (q .at) (q .bytes) (definitions s) (r .row-is) in
     let (k, e) = in-here s (definitions s) row q (r .marking) c (r .span) (r .of-marking) is in
     record {
       paragraph = q;
@@ -54,7 +54,7 @@ from-span s row i =
       span = r .span;
       of-marking = r .of-marking;
       row-is = is;
-      within = row-within (q .at) (q .bytes) (labelsOf s (definitions s)) (definitions s) k row e;
+      within = row-within s (q .at) (q .bytes) (labelsOf s (definitions s)) (definitions s) k row e;
     }
 
 -- ---- lists

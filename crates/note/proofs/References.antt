@@ -38,7 +38,7 @@ label-bytes p c label f =
 
 module _ (s : List ℕ) (q : Placed) (w : Inside s q) (o d : Piece) where
   abbrev rowOf : Tail → List ℕ
-  rowOf t = spanRow (q .at) (q .bytes) (definitions s) (linkSpan o d t)
+  rowOf t = spanRow s (q .at) (q .bytes) (definitions s) (linkSpan o d t)
 
   abbrev textIn : List ℕ
   textIn = take (d .start - o .end) (drop (o .end) (q .bytes))
@@ -79,7 +79,7 @@ module _ (s : List ℕ) (q : Placed) (w : Inside s q) (o d : Piece) where
 
 module _ (s : List ℕ) where
   span-refers : (q : Placed) → Inside s q → (m : Marking Tail) → MarkingOf s (definitions s) q m → (x : Span Tail) → SpanOf m x
-      → RowWithin (q .at) (length (q .bytes)) (spanRow (q .at) (q .bytes) (definitions s) x) → 3 ≤ kindNumber x → RefersTo s (definitions s) (spanRow (q .at) (q .bytes) (definitions s) x)
+      → RowWithin (q .at) (length (q .bytes)) (spanRow s (q .at) (q .bytes) (definitions s) x) → 3 ≤ kindNumber x → RefersTo s (definitions s) (spanRow s (q .at) (q .bytes) (definitions s) x)
   span-refers q w m c (codeSpan p) y r h = absurd (omega arith)
   span-refers q w m c (linkSpan o d t) y r h =
       let l = link-read (q .bytes) (labelsOf s (definitions s)) m c o d t y in

@@ -27,7 +27,7 @@ pub record ByLaw (x : Sample) : Type 0 where
   pub definitions : List Definition
   pub paragraphs : List Placed
   pub note : NoteIs (ascii (x .note)) definitions paragraphs
-  pub definition-rows-are : map numbers definitions ≡ x .definition-rows
+  pub definition-rows-are : map (numbers (ascii (x .note))) definitions ≡ x .definition-rows
   pub span-rows-are : EachRowOnce (ascii (x .note)) (x .span-rows)
 
 pub samples-by-law : (x : Sample) → In x samples → ByLaw x
@@ -47,9 +47,9 @@ module _ (s : List ℕ) {ps : List Placed} (e : partsOf s ≡ ([], ps)) where
   unfolding firstDeep labels
   deep-by = ap (λ (x : List Definition × List Placed). deepIn (labelsOf s (x .0)) (x .1)) e
 
-  rows-by : spanRows s ≡ rowsIn [] [] ps
+  rows-by : spanRows s ≡ rowsIn s [] [] ps
   unfolding spanRows labels
-  rows-by = ap (λ (x : List Definition × List Placed). rowsIn (labelsOf s (x .0)) (x .0) (x .1)) e
+  rows-by = ap (λ (x : List Definition × List Placed). rowsIn s (labelsOf s (x .0)) (x .0) (x .1)) e
 
 pub edges : Edges
 unfolding deepIn rowsIn
@@ -59,7 +59,7 @@ edges =
       deep = deep-by (brackets 1025) (holds .parts-1025) ∙ deep-openings [] 0 1025 [];
       afresh = deep-by (two 1024 1024) (holds .parts-two) ∙ deep-openings [] 0 1024 (openings 1026 1024 ∷ []) ∙ deep-openings [] 1026 1024 [];
       deep-later = deep-by (two 5 1025) (holds .parts-later) ∙ deep-openings [] 0 5 (openings 7 1025 ∷ []) ∙ deep-openings [] 7 1025 [];
-      no-span = rows-by (brackets 1024) (holds .parts-1024) ∙ rows-openings [] 0 1024 [] [];
+      no-span = rows-by (brackets 1024) (holds .parts-1024) ∙ rows-openings [] 0 1024 [] (brackets 1024) [];
     }
 
 -- and by the law

@@ -17,17 +17,17 @@ use Rattle.note.specs.Reading.{labels, rowsIn, spanRows}
 use Rattle.note.proofs.Markings.{markingsIn, marked}
 
 module _ (s : List ℕ) (ds : List Definition) where
-  rows-read : (ps : List Placed) → RowsIn s ds ps (markingsIn (labelsOf s ds) ps) (rowsIn (labelsOf s ds) ds ps)
+  rows-read : (ps : List Placed) → RowsIn s ds ps (markingsIn (labelsOf s ds) ps) (rowsIn s (labelsOf s ds) ds ps)
   unfolding rowsIn
   rows-read [] = none
   rows-read (q ∷ ps) =
-      more (rows-are-read (q .at) (q .bytes) (labelsOf s ds) ds (the-marking (q .bytes) (labelsOf s ds)) (the-marking-meets (q .bytes) (labelsOf s ds))) (rows-read ps)
+      more (rows-are-read s (q .at) (q .bytes) (labelsOf s ds) ds (the-marking (q .bytes) (labelsOf s ds)) (the-marking-meets (q .bytes) (labelsOf s ds))) (rows-read ps)
 
-  rows-one : {ps : List Placed} {ms : List (Marking Tail)} {rows : List (List ℕ)} → MarkingsAre s ds ps ms → RowsIn s ds ps ms rows → rows ≡ rowsIn (labelsOf s ds) ds ps
+  rows-one : {ps : List Placed} {ms : List (Marking Tail)} {rows : List (List ℕ)} → MarkingsAre s ds ps ms → RowsIn s ds ps ms rows → rows ≡ rowsIn s (labelsOf s ds) ds ps
   unfolding rowsIn
   rows-one Forall₂·nil none = refl
   rows-one (Forall₂·cons {a = q} {b = m} h t) (more {rows = rows} r rs) =
-      ap₂ {A = List (List ℕ)} {B = List (List ℕ)} {C = List (List ℕ)} _++_ (no-other-rows (q .at) (q .bytes) (labelsOf s ds) ds m h rows r) (rows-one t rs)
+      ap₂ {A = List (List ℕ)} {B = List (List ℕ)} {C = List (List ℕ)} _++_ (no-other-rows s (q .at) (q .bytes) (labelsOf s ds) ds m h rows r) (rows-one t rs)
 
 -- the rows that are read are exactly those of the note's markings
 pub span-rows-iff : (s : List ℕ) (rows : List (List ℕ)) → (spanRows s ≡ rows) ↔ SpanRowsAre s rows

@@ -78,16 +78,16 @@ module _ (p : List ℕ) (ls : List (List ℕ)) (m : Marking Tail) (c : Meets (ru
   code-some q x = some-bytes (c .kinds (x .index) q (x .at) (λ e. nothing≢trailing (ap role (sym (x .is-code)) ∙ e)))
 
 -- ---- rows
-module _ (at : ℕ) (p : List ℕ) (ls : List (List ℕ)) (ds : List Definition) where
-  row-some : (x : Span Tail) → SpanOf (the-marking p ls) x → RowWithin at (length p) (spanRow at p ds x) → at < rowEnd (spanRow at p ds x)
+module _ (s : List ℕ) (at : ℕ) (p : List ℕ) (ls : List (List ℕ)) (ds : List Definition) where
+  row-some : (x : Span Tail) → SpanOf (the-marking p ls) x → RowWithin at (length p) (spanRow s at p ds x) → at < rowEnd (spanRow s at p ds x)
   row-some (codeSpan q) o w = omega (arith, code-some p ls (the-marking p ls) (the-marking-meets p ls) q o)
   row-some (linkSpan o d t) l w =
       omega (arith, link-read p ls (the-marking p ls) (the-marking-meets p ls) o d t l .some-bracket, w .text-ordered, w .text-to)
 
   -- every row of a paragraph ends after the paragraph's start, and not after its end
-  pub row-ends : (row : List ℕ) → In row (spanRows at p ls ds) → (at < rowEnd row) × (rowEnd row ≤ at + length p)
+  pub row-ends : (row : List ℕ) → In row (spanRows s at p ls ds) → (at < rowEnd row) × (rowEnd row ≤ at + length p)
   row-ends row (k, e) =
-      let w = row-within at p ls ds k row e in
-      let f = in-mapped (spanRow at p ds) (spans (grammar p ls)) row (k, e) in
+      let w = row-within s at p ls ds k row e in
+      let f = in-mapped (spanRow s at p ds) (spans (grammar p ls)) row (k, e) in
       let o = its-spans-are-read p ls (the-marking p ls) (the-marking-meets p ls) .no-others (f .from) (f .there) in
       (subst (λ (r : List ℕ). at < rowEnd r) (f .is) (row-some (f .from) o (subst (RowWithin at (length p)) (sym (f .is)) w)), w .to)

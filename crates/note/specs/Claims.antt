@@ -5,9 +5,10 @@ use mathlib.Core.Logic.{_↔_}
 use mathlib.Core.Option.{some}
 use mathlib.Core.Bool.{cond}
 use mathlib.Core.List.{List, [], _∷_}
-use lib.ListN.{length, getD, drop, getElem?}
+use lib.ListN.{length, getD, take, drop, getElem?}
 use lib.Dec.{eqb}
 use Rattle.scan.specs.Member.{In}
+use Rattle.line.specs.Line.{lineOf}
 use Rattle.marking.specs.Claims.{ExactlyOne}
 use Rattle.block.specs.Block.{Placed}
 use Rattle.row.specs.declared.Range.{Range}
@@ -26,8 +27,8 @@ pub record OneMarkingEach (s : List ℕ) : Type 0 where
       → (n .definitions ≡ the-markings .definitions) × (n .paragraphs ≡ the-markings .paragraphs) × (n .markings ≡ the-markings .markings)
   pub each : (q : Placed) → In q (the-markings .paragraphs) → ExactlyOne (rules (q .bytes) (labelsOf s (the-markings .definitions)))
 
--- A span row of a note s with the definitions ds has ten numbers, every place in it is at most the note's length, and its definition number at most
--- the number of definitions.
+-- A span row of a note s with the definitions ds has eleven numbers, every place in it is at most the note's length, its definition number at most
+-- the number of definitions, and its line is that of its start.
 pub record RowFits (s : List ℕ) (ds : List Definition) (row : List ℕ) : Type 0 where
   pub wide : length row ≡ width
   pub start : getD row 1 0 ≤ getD row 3 0
@@ -39,6 +40,7 @@ pub record RowFits (s : List ℕ) (ds : List Definition) (row : List ℕ) : Type
   pub destination-end : getD row 7 0 ≤ length s
   pub title-start : getD row 8 0 ≤ length s
   pub title-end : getD row 9 0 ≤ length s
+  pub line : getD row 10 0 ≡ lineOf s (getD row 1 0)
 
 -- where the label stands that a reference row was looked up by: between the second brackets of a full reference, else between the first
 abbrev pub lookedUp : List ℕ → Range
@@ -52,7 +54,7 @@ pub record RefersTo (s : List ℕ) (ds : List Definition) (row : List ℕ) : Typ
   pub definition : Definition
   pub is-there : getElem? ds index ≡ some definition
   pub number-is : getD row 5 0 ≡ definitionNumber index
-  pub target-is : drop 6 row ≡ definition .destination .start ∷ definition .destination .end ∷ definition .title .start ∷ definition .title .end ∷ []
+  pub target-is : take 4 (drop 6 row) ≡ definition .destination .start ∷ definition .destination .end ∷ definition .title .start ∷ definition .title .end ∷ []
 
 -- Demand 3 of a note s. "The link rules are stated as conditions on a finished marking of a paragraph": `Meets` and `rules`, cited by `Marked` and `ExactlyOne`.
 pub record Demand3 (s : List ℕ) : Type 0 where

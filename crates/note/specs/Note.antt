@@ -38,8 +38,8 @@ pub record Marked (s : List ℕ) : Type 0 where
   pub each : MarkingsAre s definitions paragraphs markings
 
 -- ---- span rows
--- row is that of a link or a code span in the marking of one of these paragraphs
-pub record RowOf (ds : List Definition) (ps : List Placed) (ms : List (Marking Tail)) (row : List ℕ) : Type 0 where
+-- row is that of a link or a code span in the marking of one of these paragraphs of the note s
+pub record RowOf (s : List ℕ) (ds : List Definition) (ps : List Placed) (ms : List (Marking Tail)) (row : List ℕ) : Type 0 where
   pub index : ℕ
   pub paragraph : Placed
   pub paragraph-at : getElem? ps index ≡ some paragraph
@@ -47,21 +47,21 @@ pub record RowOf (ds : List Definition) (ps : List Placed) (ms : List (Marking T
   pub marking-at : getElem? ms index ≡ some marking
   pub span : Span Tail
   pub of-marking : SpanOf marking span
-  pub row-is : RowIs (paragraph .at) (paragraph .bytes) ds span row
+  pub row-is : RowIs s (paragraph .at) (paragraph .bytes) ds span row
 
 -- "Demand 3 compares them whole, number for number, with the rows that this section makes of the links and code spans in the markings": the rows
 -- of all of these and nothing else. "Rows stand in increasing order of end", so that each stands there once.
 pub record EachRowOnce (s : List ℕ) (rows : List (List ℕ)) : Type 0 where
   pub marked : Marked s
-  pub each : (row : List ℕ) → RowOf (marked .definitions) (marked .paragraphs) (marked .markings) row → In row rows
-  pub no-others : (row : List ℕ) → In row rows → RowOf (marked .definitions) (marked .paragraphs) (marked .markings) row
+  pub each : (row : List ℕ) → RowOf s (marked .definitions) (marked .paragraphs) (marked .markings) row → In row rows
+  pub no-others : (row : List ℕ) → In row rows → RowOf s (marked .definitions) (marked .paragraphs) (marked .markings) row
   pub in-order : EndsIncrease rows
 
 -- What follows: the same rows paragraph after paragraph, those of each by itself. "Places count from the note's start."
 pub data RowsIn (s : List ℕ) (ds : List Definition) : List Placed → List (Marking Tail) → List (List ℕ) → Type 0 where
   none : RowsIn s ds [] [] []
   more : {q : Placed} {ps : List Placed} {m : Marking Tail} {ms : List (Marking Tail)} {rows others : List (List ℕ)}
-      → RowsAre (q .at) (q .bytes) (labelsOf s ds) ds m rows → RowsIn s ds ps ms others → RowsIn s ds (q ∷ ps) (m ∷ ms) (rows ++ others)
+      → RowsAre s (q .at) (q .bytes) (labelsOf s ds) ds m rows → RowsIn s ds ps ms others → RowsIn s ds (q ∷ ps) (m ∷ ms) (rows ++ others)
 
 pub record SpanRowsAre (s : List ℕ) (rows : List (List ℕ)) : Type 0 where
   pub marked : Marked s

@@ -16,13 +16,13 @@ unfoldable pub labels : List ℕ → List (List ℕ)
 labels s = labelsOf s (definitions s)
 
 -- ---- span rows
--- the rows of these paragraphs, where the definitions ds have these labels
-unfoldable pub rowsIn : List (List ℕ) → List Definition → List Placed → List (List ℕ)
-rowsIn ls ds [] = []
-rowsIn ls ds (q ∷ ps) = paragraph.spanRows (q .at) (q .bytes) ls ds ++ rowsIn ls ds ps
+-- the rows of these paragraphs of the note s, where the definitions ds have these labels
+unfoldable pub rowsIn : List ℕ → List (List ℕ) → List Definition → List Placed → List (List ℕ)
+rowsIn s ls ds [] = []
+rowsIn s ls ds (q ∷ ps) = paragraph.spanRows s (q .at) (q .bytes) ls ds ++ rowsIn s ls ds ps
 
 unfoldable pub spanRows : List ℕ → List (List ℕ)
-spanRows s = rowsIn (labels s) (definitions s) (paragraphs s)
+spanRows s = rowsIn s (labels s) (definitions s) (paragraphs s)
 
 -- ---- brackets open at once
 -- the place in the paragraph, from the note's start; or what is found later

@@ -1,5 +1,5 @@
--- "Samples on the bench": the notes P1 to P13 of document 01 with their definition rows and their span rows; beside them its whole example, and
--- notes with 1,024 and 1,025 brackets open.
+-- "Samples on the bench": the notes P1 to P13 of document 01 with their definition rows and their span rows; beside them its whole example, a note
+-- over many lines, and notes with 1,024 and 1,025 brackets open.
 use Prim.Native.Nat.{ℕ}
 use Prim.Native.String.{String}
 use mathlib.Core.Path.{_≡_, refl}
@@ -7,6 +7,7 @@ use mathlib.Core.Option.{none, some}
 use mathlib.Core.List.{List, [], _∷_, _++_, map}
 use lib.ListN.{replicate}
 use Rattle.scan.specs.Ascii.{ascii}
+use Rattle.line.specs.Line.{feeds, lineOf}
 use Rattle.scan.specs.Reading.{scan as scanBytes, run, past, leap, closingStep, closing}
 use Rattle.text.specs.Sequences.{onesFrom, leadingOnes, sequenceLength, characters}
 use Rattle.label.specs.Reading.{inky, fitsAfter, fits, labelEnd, unclosed, isLabel}
@@ -27,46 +28,52 @@ use Rattle.note.specs.Reading.{labels, rowsIn, spanRows, deepIn, firstDe
 
 pub record Sample : Type 0 where
   pub note : String
-  -- its definition rows, six numbers each, and its span rows, ten numbers each
+  -- its definition rows, seven numbers each, and its span rows, eleven numbers each
   pub definition-rows : List (List ℕ)
   pub span-rows : List (List ℕ)
 
 abbrev sample : String → List (List ℕ) → List (List ℕ) → Sample
 sample note ds rs = record { note = note; definition-rows = ds; span-rows = rs }
 
-abbrev six : ℕ → ℕ → ℕ → ℕ → ℕ → ℕ → List ℕ
-six a b c d e f = a ∷ b ∷ c ∷ d ∷ e ∷ f ∷ []
+abbrev seven : ℕ → ℕ → ℕ → ℕ → ℕ → ℕ → ℕ → List ℕ
+seven a b c d e f l = a ∷ b ∷ c ∷ d ∷ e ∷ f ∷ l ∷ []
 
-abbrev ten : ℕ → ℕ → ℕ → ℕ → ℕ → ℕ → ℕ → ℕ → ℕ → ℕ → List ℕ
-ten k a b c d n e f g h = k ∷ a ∷ b ∷ c ∷ d ∷ n ∷ e ∷ f ∷ g ∷ h ∷ []
+abbrev eleven : ℕ → ℕ → ℕ → ℕ → ℕ → ℕ → ℕ → ℕ → ℕ → ℕ → ℕ → List ℕ
+eleven k a b c d n e f g h l = k ∷ a ∷ b ∷ c ∷ d ∷ n ∷ e ∷ f ∷ g ∷ h ∷ l ∷ []
 
 abbrev pub samples : List Sample
 samples =
     -- P1 to P5: source 000
-    sample "[link]()" [] (ten 2 0 8 1 5 0 0 0 0 0 ∷ [])
-    ∷ sample "[a](<b)c>)" [] (ten 2 0 10 1 2 0 5 8 0 0 ∷ [])
-    ∷ sample "[link](foo\\)\\:)" [] (ten 2 0 15 1 5 0 7 14 0 0 ∷ [])
+    sample "[link]()" [] (eleven 2 0 8 1 5 0 0 0 0 0 1 ∷ [])
+    ∷ sample "[a](<b)c>)" [] (eleven 2 0 10 1 2 0 5 8 0 0 1 ∷ [])
+    ∷ sample "[link](foo\\)\\:)" [] (eleven 2 0 15 1 5 0 7 14 0 0 1 ∷ [])
     ∷ sample "[link](/my uri)" [] []
-    ∷ sample "[foo][ref\\[]\n\n[ref\\[]: /uri" (six 15 20 23 27 0 0 ∷ []) (ten 3 0 12 1 4 1 23 27 0 0 ∷ [])
+    ∷ sample "[foo][ref\\[]\n\n[ref\\[]: /uri" (seven 15 20 23 27 0 0 3 ∷ []) (eleven 3 0 12 1 4 1 23 27 0 0 1 ∷ [])
     -- P6 to P11: source 003
-    ∷ sample "[foo [bar](/uri)][ref]\n\n[ref]: /uri" (six 25 28 31 35 0 0 ∷ []) (ten 2 5 16 6 9 0 11 15 0 0 ∷ ten 5 17 22 18 21 1 31 35 0 0 ∷ [])
-    ∷ sample "[foo][bar][baz]\n\n[baz]: /url" (six 18 21 24 28 0 0 ∷ []) (ten 3 5 15 6 9 1 24 28 0 0 ∷ [])
-    ∷ sample "[foo][bar][baz]\n\n[baz]: /url1\n[bar]: /url2" (six 18 21 24 29 0 0 ∷ six 31 34 37 42 0 0 ∷ []) (ten 3 0 10 1 4 2 37 42 0 0 ∷ ten 5 10 15 11 14 1 24 29 0 0 ∷ [])
-    ∷ sample "[foo][bar][baz]\n\n[baz]: /url1\n[foo]: /url2" (six 18 21 24 29 0 0 ∷ six 31 34 37 42 0 0 ∷ []) (ten 3 5 15 6 9 1 24 29 0 0 ∷ [])
-    ∷ sample "[foo`][ref]`\n\n[ref]: /uri" (six 15 18 21 25 0 0 ∷ []) (ten 1 4 12 5 11 0 0 0 0 0 ∷ [])
-    ∷ sample "[foo](not a link)\n\n[foo]: /url1" (six 20 23 26 31 0 0 ∷ []) (ten 5 0 5 1 4 1 26 31 0 0 ∷ [])
+    ∷ sample "[foo [bar](/uri)][ref]\n\n[ref]: /uri" (seven 25 28 31 35 0 0 3 ∷ []) (eleven 2 5 16 6 9 0 11 15 0 0 1 ∷ eleven 5 17 22 18 21 1 31 35 0 0 1 ∷ [])
+    ∷ sample "[foo][bar][baz]\n\n[baz]: /url" (seven 18 21 24 28 0 0 3 ∷ []) (eleven 3 5 15 6 9 1 24 28 0 0 1 ∷ [])
+    ∷ sample "[foo][bar][baz]\n\n[baz]: /url1\n[bar]: /url2" (seven 18 21 24 29 0 0 3 ∷ seven 31 34 37 42 0 0 4 ∷ []) (eleven 3 0 10 1 4 2 37 42 0 0 1 ∷ eleven 5 10 15 11 14 1 24 29 0 0 1 ∷ [])
+    ∷ sample "[foo][bar][baz]\n\n[baz]: /url1\n[foo]: /url2" (seven 18 21 24 29 0 0 3 ∷ seven 31 34 37 42 0 0 4 ∷ []) (eleven 3 5 15 6 9 1 24 29 0 0 1 ∷ [])
+    ∷ sample "[foo`][ref]`\n\n[ref]: /uri" (seven 15 18 21 25 0 0 3 ∷ []) (eleven 1 4 12 5 11 0 0 0 0 0 1 ∷ [])
+    ∷ sample "[foo](not a link)\n\n[foo]: /url1" (seven 20 23 26 31 0 0 3 ∷ []) (eleven 5 0 5 1 4 1 26 31 0 0 1 ∷ [])
     -- P12 and P13: source 002, examples 173 and 179
-    ∷ sample "[foo]\n\n[foo]: first\n[foo]: second" (six 8 11 14 19 0 0 ∷ six 21 24 27 33 0 0 ∷ []) (ten 5 0 5 1 4 1 14 19 0 0 ∷ [])
-    ∷ sample "[foo]: /url\n\"title\" ok" (six 1 4 7 11 0 0 ∷ []) []
+    ∷ sample "[foo]\n\n[foo]: first\n[foo]: second" (seven 8 11 14 19 0 0 3 ∷ seven 21 24 27 33 0 0 4 ∷ []) (eleven 5 0 5 1 4 1 14 19 0 0 1 ∷ [])
+    ∷ sample "[foo]: /url\n\"title\" ok" (seven 1 4 7 11 0 0 1 ∷ []) []
     ∷ []
 
--- "Whole example, 34 bytes"
+-- "Whole example, 34 bytes", and it "gains 1 on its definition row and 3 on its span row"
 abbrev pub whole-example : Sample
-whole-example = sample "[max]: /q2/max \"June\"\n\nUse [max].\n" (six 1 4 7 14 16 20 ∷ []) (ten 5 27 32 28 31 1 7 14 16 20 ∷ [])
+whole-example = sample "[max]: /q2/max \"June\"\n\nUse [max].\n" (seven 1 4 7 14 16 20 1 ∷ []) (eleven 5 27 32 28 31 1 7 14 16 20 3 ∷ [])
+
+-- lines: of a definition whose parts stand on two lines, of a link that starts before the code span in it, and past empty lines
+abbrev pub over-lines : Sample
+over-lines =
+    sample "\n[a]:\nb\n\n[x\n`y`][a]\n\n\n`z`" (seven 2 3 6 7 0 0 2 ∷ [])
+    (eleven 1 12 15 13 14 0 0 0 0 0 6 ∷ eleven 3 9 19 10 15 1 6 7 0 0 5 ∷ eleven 1 22 25 23 24 0 0 0 0 0 9 ∷ [])
 
 -- a sample's note with the rows that are read from its bytes
 abbrev pub readOne : Sample → Sample
-readOne x = sample (x .note) (map numbers (definitions (ascii (x .note)))) (spanRows (ascii (x .note)))
+readOne x = sample (x .note) (map (numbers (ascii (x .note))) (definitions (ascii (x .note)))) (spanRows (ascii (x .note)))
 
 abbrev pub brackets : ℕ → List ℕ
 brackets n = replicate n 91
@@ -85,6 +92,7 @@ partsOf s = (definitions s, paragraphs s)
 pub record Holds : Type 0 where
   pub bench : map readOne samples ≡ samples
   pub example : readOne whole-example ≡ whole-example
+  pub lines : readOne over-lines ≡ over-lines
   -- "A formulary import has lists in square brackets 70 deep."
   pub seventy : firstDeep (brackets 70 ++ replicate 70 93) ≡ none
   pub parts-1024 : partsOf (brackets 1024) ≡ ([], openings 0 1024 ∷ [])
@@ -103,10 +111,10 @@ pub record Edges : Type 0 where
   pub no-span : spanRows (brackets 1024) ≡ []
 
 pub holds : Holds
-unfolding scanBytes run past leap closingStep closing onesFrom leadingOnes sequenceLength characters inky fitsAfter fits labelEnd unclosed isLabel
+unfolding feeds lineOf scanBytes run past leap closingStep closing onesFrom leadingOnes sequenceLength characters inky fitsAfter fits labelEnd unclosed isLabel
     spaceFrom depthAfter rawStep rawRun judged destinationOf closer titleOf fold spaced formOf compared equals matches
     spans finish scan scanStep scanFound scanStart over overs overWithin blankLine lineLength blockRest blockLength partLength blockHere blocks matchFrom
     definition.lineAfter definition.titleAfter definition.endingAfter definition.afterLabel definition.afterIndent definition.definitionAt definition.takingFrom definition.definitionsFrom
     definition.paragraphEnd definition.paragraphFrom definition.definitionsOf definition.paragraphOf definition.definitionsIn definition.paragraphsIn definitions paragraphs
     countAfter runStep runDone closingRun pieceFrom closedAt afterDestination inlineOf labelAfter textTail tailOf labels rowsIn spanRows deepIn firstDeep
-holds = record { bench = refl; example = refl; seventy = refl; parts-1024 = refl; parts-1025 = refl; parts-two = refl; parts-later = refl }
+holds = record { bench = refl; example = refl; lines = refl; seventy = refl; parts-1024 = refl; parts-1025 = refl; parts-two = refl; parts-later = refl }

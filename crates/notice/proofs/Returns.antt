@@ -21,6 +21,7 @@ use Rattle.definition.specs.Reading.{definitions}
 use Rattle.table.proofs.Lookup.{table-fit}
 use Rattle.span.specs.Row as spanTable
 use Rattle.note.specs.Reading.{spanRows, firstDeep}
+use Rattle.step.specs.declared.Walk.{Walk}
 use Rattle.paragraph.specs.declared.Tally.{Tally}
 use Rattle.paragraph.specs.declared.Tally.the-variants as tallies
 use Rattle.paragraph.specs.Tally as tally
@@ -42,15 +43,18 @@ no-part (x ∷ part) t e = absurd (omega arith)
 module _ (s : List ℕ) (count : ℕ) {part : List ℕ} {r : Tally} (m : NoteMarked s [] r part) (u : List ℕ) where
   pub too-many-open : {place : ℕ} → r ≡ tallies.Deep place → length part ≡ 0 → SpansRead s count u (Deep place) (part ++ u)
   too-many-open {place} er e =
-      let w : firstDeep s ≡ some place = was-deep (firstDeep s) (length (spanRows s)) (sym (m .answer) ∙ er) in
+      let w : firstDeep s ≡ some place = was-deep (firstDeep s) (m .walk) (sym (m .answer) ∙ er) in
       record { answer = rw w refl; spans = no-part part u e }
 
-  module _ {n : ℕ} (er : r ≡ tallies.Spans n) where
+  module _ {w : Walk} (er : r ≡ tallies.Spans w) where
+    abbrev n : ℕ
+    n = w .row
+
     never : firstDeep s ≡ none
-    never = was-spans (firstDeep s) (length (spanRows s)) (sym (m .answer) ∙ er) .0
+    never = was-spans (firstDeep s) (m .walk) (sym (m .answer) ∙ er) .0
 
     count-is : length (spanRows s) ≡ n
-    count-is = was-spans (firstDeep s) (length (spanRows s)) (sym (m .answer) ∙ er) .1
+    count-is = sym (m .counted (ap tally.numberOf er)) ∙ ap (λ (x : Walk). x .row) (was-spans (firstDeep s) (m .walk) (sym (m .answer) ∙ er) .1)
 
     back : part ++ u ≡ u
     back = no-part part u (ap length (m .table (ap tally.numberOf er) ∙ rows.filled-empty spanTable.width (λ (row : List ℕ). row) (spanRows s)))
@@ -113,10 +117,10 @@ rows-there d none n k = by (ltb k n) (λ e. rw e refl) (λ e. rw e refl)
 
 -- the definitions are counted, and nothing is stored
 module _ (s t u : List ℕ) {c : Checked} (ec : c ≡ checkOf s) (good : c ≡ text.Good)
-    {part : List ℕ} (ep : part ≡ definitionTable.filled (definitions s) []) {count : ℕ} (en : count ≡ length (definitions s))
+    {part : List ℕ} (ep : part ≡ definitionTable.filled s (definitions s) []) {count : ℕ} (en : count ≡ length (definitions s))
     {n : ℕ} (el : n ≡ definitionTable.wholeRows (part ++ t)) where
   same : part ++ t ≡ t
-  same = no-part part t (ap length (ep ∙ filled-empty (definitions s)))
+  same = no-part part t (ap length (ep ∙ filled-empty s (definitions s)))
 
   whole-rows : n ≡ definitionTable.wholeRows t
   whole-rows = el ∙ ap (λ (l : List ℕ). definitionTable.wholeRows l) same
@@ -132,19 +136,19 @@ module _ (s t u : List ℕ) {c : Checked} (ec : c ≡ checkOf s) (good : c ≡ t
       ∙ sym (by-check s (definitionTable.wholeRows t) spans text.Good (sym ec ∙ good) ∙ too-few-definitions (length (definitions s)) (firstDeep s) (length (spanRows s)) (definitionTable.wholeRows t) spans z))
       same refl
 
-  module _ (h : count ≤ n) {t′ : List ℕ} (et : t′ ≡ definitionTable.filled (definitions s) (part ++ t)) where
+  module _ (h : count ≤ n) {t′ : List ℕ} (et : t′ ≡ definitionTable.filled s (definitions s) (part ++ t)) where
     enough : length (definitions s) ≤ definitionTable.wholeRows t
     enough = omega (arith, whole-rows, en)
 
-    table : t′ ≡ definitionTable.filled (definitions s) t
-    table = et ∙ ap (definitionTable.filled (definitions s)) same
+    table : t′ ≡ definitionTable.filled s (definitions s) t
+    table = et ∙ ap (definitionTable.filled s (definitions s)) same
 
     pub defined : Defined s t′ count
     defined = record {
       short = check-good s .0 (sym ec ∙ good) .0;
       fit = table-fit s t enough table en;
       counted = en;
-      rows-are = rw (table, en) (definitions-back (definitions s) t enough);
+      rows-are = rw (table, en) (definitions-back s (definitions s) t enough);
     }
 
     pub all-read : {r : Reading} {u′ : List ℕ} → SpansRead s count u r u′ → Promise s t u r s t′ u′
@@ -157,8 +161,8 @@ module _ (s t u : List ℕ) {c : Checked} (ec : c ≡ checkOf s) (good : c ≡ t
 
   -- where there are none, the table is the one that was lent
   module _ (h : count ≤ n) (z : count ≡ 0) where
-    still : part ++ t ≡ definitionTable.filled (definitions s) (part ++ t)
-    still = filled-still (definitions s) (part ++ t) (sym en ∙ z)
+    still : part ++ t ≡ definitionTable.filled s (definitions s) (part ++ t)
+    still = filled-still s (definitions s) (part ++ t) (sym en ∙ z)
 
     pub none-defined : Defined s (part ++ t) count
     none-defined = defined h still

@@ -5,6 +5,7 @@ use mathlib.Core.Option.{Option, none, some}
 use mathlib.Core.List.{List, [], _∷_}
 use lib.ListN.{length}
 use Rattle.scan.specs.Ascii.{ascii}
+use Rattle.line.specs.Line.{feeds, lineOf}
 use Rattle.text.specs.declared.Checked.the-variants.{Good}
 use Rattle.text.specs.Reading.{checkOf}
 use Rattle.block.specs.Block.{Placed}
@@ -45,15 +46,15 @@ count-by : (s : List ℕ) {ds : List Definition} {ps : List Placed} → partsOf 
 count-by s e = ap (λ (x : List Definition × List Placed). length (x .0)) e
 
 -- and the table that holds their rows
-table-by : (s t : List ℕ) {ds : List Definition} {ps : List Placed} → partsOf s ≡ (ds, ps) → definitionTable.filled (definitions s) t ≡ definitionTable.filled ds t
-table-by s t e = ap (λ (x : List Definition × List Placed). definitionTable.filled (x .0) t) e
+table-by : (s t : List ℕ) {ds : List Definition} {ps : List Placed} → partsOf s ≡ (ds, ps) → definitionTable.filled s (definitions s) t ≡ definitionTable.filled s ds t
+table-by s t e = ap (λ (x : List Definition × List Placed). definitionTable.filled s (x .0) t) e
 
 no-rows : spanTableOf (brackets 1024) 0 [] ≡ []
 unfolding rows filled
 no-rows = ap (λ (x : List (List ℕ)). spansFilled x []) (note.edges .no-span)
 
 pub edges-hold : Hold edges
-unfolding rows filled
+unfolding feeds lineOf rows filled
 edges-hold = rw (full, over, first)
   where
     full : readOne (sample (brackets 1024) [] [] (Read 0 0) [] []) ≡ sample (brackets 1024) [] [] (Read 0 0) [] []
@@ -62,5 +63,5 @@ edges-hold = rw (full, over, first)
     over : readOne (sample (brackets 1025) [] [] (Deep 1024) [] []) ≡ sample (brackets 1025) [] [] (Deep 1024) [] []
     over = sample-by (brackets 1025) [] [] [] [] (Deep 1024) (answer-by (brackets 1025) 0 0 0 _ (some 1024) (samples-hold .good-1025) (count-by (brackets 1025) (holds .parts-1025)) (note.edges .deep) refl) (table-by (brackets 1025) [] (holds .parts-1025)) refl
 
-    first : readOne (sample deep (lent 6) [] (Deep 1037) (1 ∷ 2 ∷ 5 ∷ 6 ∷ 0 ∷ 0 ∷ []) []) ≡ sample deep (lent 6) [] (Deep 1037) (1 ∷ 2 ∷ 5 ∷ 6 ∷ 0 ∷ 0 ∷ []) []
-    first = sample-by deep (lent 6) [] (1 ∷ 2 ∷ 5 ∷ 6 ∷ 0 ∷ 0 ∷ []) [] (Deep 1037) (answer-by deep 1 0 1 _ (some 1037) (samples-hold .good-deep) (count-by deep (samples-hold .deep-parts)) deep-first refl) (table-by deep (lent 6) (samples-hold .deep-parts)) refl
+    first : readOne (sample deep (lent 7) [] (Deep 1037) (1 ∷ 2 ∷ 5 ∷ 6 ∷ 0 ∷ 0 ∷ 1 ∷ []) []) ≡ sample deep (lent 7) [] (Deep 1037) (1 ∷ 2 ∷ 5 ∷ 6 ∷ 0 ∷ 0 ∷ 1 ∷ []) []
+    first = sample-by deep (lent 7) [] (1 ∷ 2 ∷ 5 ∷ 6 ∷ 0 ∷ 0 ∷ 1 ∷ []) [] (Deep 1037) (answer-by deep 1 0 1 _ (some 1037) (samples-hold .good-deep) (count-by deep (samples-hold .deep-parts)) deep-first refl) (table-by deep (lent 7) (samples-hold .deep-parts)) refl

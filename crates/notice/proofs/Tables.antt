@@ -25,7 +25,7 @@ use Rattle.notice.specs.Reading.{spansFilled, definitionTableOf, spanTab
 use Rattle.notice.specs.Claims.{spanNumbers, DefinitionRows, SpanRows, Tables}
 use Rattle.notice.proofs.Answers.{definition-count, span-count}
 
--- ---- rows of ten numbers
+-- ---- rows of eleven numbers
 length-numbers : (rows : List (List ℕ)) → ((row : List ℕ) → In row rows → length row ≡ spanTable.width) → length (spanNumbers rows) ≡ length rows * spanTable.width
 unfolding Rows.rows
 length-numbers [] w = refl
@@ -41,10 +41,10 @@ module _ (s : List ℕ) where
   unfolding Rows.filled
   spans-filled-whole u h = rw (take-all (spanTable.wholeRows u) (spanRows s) h, span-numbers)
 
-  definition-rows : (t : List ℕ) {t′ : List ℕ} → Enough (definitionTable.wholeRows t) (DefinitionsCounted s) → t′ ≡ definitionTable.filled (definitions s) t → DefinitionRows s t t′
+  definition-rows : (t : List ℕ) {t′ : List ℕ} → Enough (definitionTable.wholeRows t) (DefinitionsCounted s) → t′ ≡ definitionTable.filled s (definitions s) t → DefinitionRows s t t′
   definition-rows t w e =
       let h : length (definitions s) ≤ definitionTable.wholeRows t = omega (arith, definition-count s (w .counted), w .enough) in
-      record { definitions = definitions s; paragraphs = paragraphs s; note = note-some s; fit = h; holds = e ∙ filled-whole (definitions s) t h }
+      record { definitions = definitions s; paragraphs = paragraphs s; note = note-some s; fit = h; holds = e ∙ filled-whole s (definitions s) t h }
 
   span-rows : (u : List ℕ) {u′ : List ℕ} → Enough (spanTable.wholeRows u) (SpansCounted s) → u′ ≡ spansFilled (spanRows s) u → SpanRows s u u′
   span-rows u w e =
@@ -77,24 +77,24 @@ module _ (s : List ℕ) where
           spans-size = ap length q;
         }
 
-    after-4-5 : 4 ≤ numberOf x → Enough (definitionTable.wholeRows t) (DefinitionsCounted s) → t′ ≡ definitionTable.filled (definitions s) t → u′ ≡ u → Tables s t u x t′ u′
+    after-4-5 : 4 ≤ numberOf x → Enough (definitionTable.wholeRows t) (DefinitionsCounted s) → t′ ≡ definitionTable.filled s (definitions s) t → u′ ≡ u → Tables s t u x t′ u′
     after-4-5 lo w p q =
         record {
           unchanged = λ h k. absurd (omega arith);
           definitions-only = λ h. (definition-rows t w p, q);
           success = λ h. absurd (omega arith);
-          definitions-size = ap length p ∙ length-filled (definitions s) t;
+          definitions-size = ap length p ∙ length-filled s (definitions s) t;
           spans-size = ap length q;
         }
 
     after-0 : numberOf x ≡ 0 → Enough (definitionTable.wholeRows t) (DefinitionsCounted s) → Enough (spanTable.wholeRows u) (SpansCounted s)
-        → t′ ≡ definitionTable.filled (definitions s) t → u′ ≡ spansFilled (spanRows s) u → Tables s t u x t′ u′
+        → t′ ≡ definitionTable.filled s (definitions s) t → u′ ≡ spansFilled (spanRows s) u → Tables s t u x t′ u′
     after-0 e w v p q =
         record {
           unchanged = λ h k. absurd (omega arith);
           definitions-only = λ h. absurd (omega arith);
           success = λ h. (definition-rows t w p, span-rows u v q);
-          definitions-size = ap length p ∙ length-filled (definitions s) t;
+          definitions-size = ap length p ∙ length-filled s (definitions s) t;
           spans-size = size-of u (span-rows u v q);
         }
 

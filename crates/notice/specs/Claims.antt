@@ -44,7 +44,7 @@ pub record DefinitionRows (s t t′ : List ℕ) : Type 0 where
   pub note : NoteIs s definitions paragraphs
   pub fit : length definitions ≤ definitionTable.wholeRows t
   -- "numbers .. past the part in use are unchanged"
-  pub holds : t′ ≡ definitionTable.rows definitions ++ drop (length definitions * definitionTable.width) t
+  pub holds : t′ ≡ definitionTable.rows s definitions ++ drop (length definitions * definitionTable.width) t
 
 -- Demand 3, and demand 2 of references: the table u has become u′.
 pub record SpanRows (s u u′ : List ℕ) : Type 0 where

@@ -50,7 +50,7 @@ spansFilled = Rows.filled spanTable.width (λ row. row)
 -- after an answer with this number, whether the reader's or the page writer's
 -- "After 1, 2, 3 all lent memory is unchanged. After 4 or 5 the definition table holds its rows": t is the table at entry
 abbrev pub definitionTableOf : List ℕ → ℕ → List ℕ → List ℕ
-definitionTableOf s number t = cond (within 1 3 number) t (definitionTable.filled (definitions s) t)
+definitionTableOf s number t = cond (within 1 3 number) t (definitionTable.filled s (definitions s) t)
 
 -- "After 4 or 5 .. the span table is unchanged.", "Span rows are given on success and after 6.": u is the table at entry
 abbrev pub spanTableOf : List ℕ → ℕ → List ℕ → List ℕ

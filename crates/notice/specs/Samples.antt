@@ -5,6 +5,7 @@ use mathlib.Core.Option.{none}
 use mathlib.Core.List.{List, [], _∷_, _++_, map}
 use lib.ListN.{replicate}
 use Rattle.scan.specs.Ascii.{ascii}
+use Rattle.line.specs.Line.{feeds, lineOf}
 use Rattle.scan.specs.Reading.{scan as scanBytes, run, past, leap, closingStep, closing}
 use Rattle.text.specs.Utf8.{table}
 use Rattle.text.specs.Sequences.{onesFrom, leadingOnes, sequenceLength, characters}
@@ -59,12 +60,12 @@ lent n = replicate n 9
 abbrev whole-example : List ℕ
 whole-example = ascii "[max]: /q2/max \"June\"\n\nUse [max].\n"
 
--- "Definition row 1 4 7 14 16 20. Span row 5 27 32 28 31 1 7 14 16 20."
+-- "Definition row 1 4 7 14 16 20. Span row 5 27 32 28 31 1 7 14 16 20." It "gains 1 on its definition row and 3 on its span row".
 abbrev definition-row : List ℕ
-definition-row = 1 ∷ 4 ∷ 7 ∷ 14 ∷ 16 ∷ 20 ∷ []
+definition-row = 1 ∷ 4 ∷ 7 ∷ 14 ∷ 16 ∷ 20 ∷ 1 ∷ []
 
 abbrev span-row : List ℕ
-span-row = 5 ∷ 27 ∷ 32 ∷ 28 ∷ 31 ∷ 1 ∷ 7 ∷ 14 ∷ 16 ∷ 20 ∷ []
+span-row = 5 ∷ 27 ∷ 32 ∷ 28 ∷ 31 ∷ 1 ∷ 7 ∷ 14 ∷ 16 ∷ 20 ∷ 3 ∷ []
 
 -- a definition, a paragraph with a code span, and one with too many brackets open
 abbrev pub deep : List ℕ
@@ -73,15 +74,15 @@ deep = ascii "[a]: b\n\n`c`\n\n" ++ brackets 1025
 abbrev pub samples : List Sample
 samples =
     -- exactly the rows needed; then part of a row more, and rows more
-    sample whole-example (lent 6) (lent 10) (Read 1 1) definition-row span-row
-    ∷ sample whole-example (lent 11) (lent 19) (Read 1 1) (definition-row ++ lent 5) (span-row ++ lent 9)
-    ∷ sample whole-example (lent 12) (lent 20) (Read 1 1) (definition-row ++ lent 6) (span-row ++ lent 10)
+    sample whole-example (lent 7) (lent 11) (Read 1 1) definition-row span-row
+    ∷ sample whole-example (lent 13) (lent 21) (Read 1 1) (definition-row ++ lent 6) (span-row ++ lent 10)
+    ∷ sample whole-example (lent 14) (lent 22) (Read 1 1) (definition-row ++ lent 7) (span-row ++ lent 11)
     ∷ unchanged [] [] [] (Read 0 0)
     -- the rows needed, where fewer whole rows are lent
-    ∷ unchanged whole-example (lent 5) (lent 10) (FewDefinitions 1)
-    ∷ sample whole-example (lent 6) (lent 9) (FewSpans 1) definition-row (lent 9)
-    ∷ unchanged (ascii "[a]: b\n[a]: c") (lent 11) [] (FewDefinitions 2)
-    ∷ unchanged (ascii "`a` `b`") [] (lent 19) (FewSpans 2)
+    ∷ unchanged whole-example (lent 6) (lent 11) (FewDefinitions 1)
+    ∷ sample whole-example (lent 7) (lent 10) (FewSpans 1) definition-row (lent 10)
+    ∷ unchanged (ascii "[a]: b\n[a]: c") (lent 13) [] (FewDefinitions 2)
+    ∷ unchanged (ascii "`a` `b`") [] (lent 21) (FewSpans 2)
     -- its length, whatever the bytes
     ∷ unchanged (replicate 32769 0) [] [] (Long 32769)
     -- bytes 0 and 13, and ill-formed UTF-8
@@ -91,7 +92,7 @@ samples =
     -- "The first that applies, in order 1 to 6, is the answer"
     ∷ unchanged (whole-example ++ 13 ∷ []) [] [] (Bad 34)
     ∷ unchanged whole-example [] [] (FewDefinitions 1)
-    ∷ unchanged deep (lent 5) [] (FewDefinitions 1)
+    ∷ unchanged deep (lent 6) [] (FewDefinitions 1)
     ∷ []
 
 -- as many brackets open as may be, and one more; and the latter before too few span rows
@@ -99,7 +100,7 @@ abbrev pub edges : List Sample
 edges =
     unchanged (brackets 1024) [] [] (Read 0 0)
     ∷ unchanged (brackets 1025) [] [] (Deep 1024)
-    ∷ sample deep (lent 6) [] (Deep 1037) (1 ∷ 2 ∷ 5 ∷ 6 ∷ 0 ∷ 0 ∷ []) []
+    ∷ sample deep (lent 7) [] (Deep 1037) (1 ∷ 2 ∷ 5 ∷ 6 ∷ 0 ∷ 0 ∷ 1 ∷ []) []
     ∷ []
 
 -- the same notes and tables lent, as they are answered
@@ -124,7 +125,7 @@ pub record Computed : Type 0 where
   pub shallow-first : over depthLimit (grammar (ascii "`c`") (ascii "a" ∷ [])) ≡ none
 
 pub samples-hold : Computed
-unfolding scanBytes run past leap closingStep closing table onesFrom leadingOnes sequenceLength characters rowFor starts characterLength goodLength firstBadPast firstBad checkOf
+unfolding feeds lineOf scanBytes run past leap closingStep closing table onesFrom leadingOnes sequenceLength characters rowFor starts characterLength goodLength firstBadPast firstBad checkOf
     inky fitsAfter fits labelEnd unclosed isLabel spaceFrom depthAfter rawStep rawRun judged destinationOf closer titleOf fold spaced formOf compared equals matches
     spans finish scan scanStep scanFound scanStart over overs overWithin blankLine lineLength blockRest blockLength partLength blockHere blocks rows filled matchFrom
     reading.lineAfter reading.titleAfter reading.endingAfter reading.afterLabel reading.afterIndent reading.definitionAt reading.takingFrom reading.definitionsFrom

@@ -8,6 +8,7 @@ use Rattle.row.specs.Reading.{Fit, definitionsFrom}
 use Rattle.definition.specs.Reading.{definitions}
 use Rattle.span.specs.Row as spanTable
 use Rattle.note.specs.Reading.{spanRows, firstDeep}
+use Rattle.step.specs.declared.Walk.{Walk}
 use Rattle.paragraph.specs.declared.Tally.{Tally}
 use Rattle.paragraph.specs.Tally as tally
 use Rattle.notice.specs.declared.Reading.{Reading}
@@ -23,7 +24,9 @@ pub record Defined (s t : List ℕ) (count : ℕ) : Type 0 where
 
 -- the place of the first bracket too many, or the number of spans, and then the table u has become u′
 pub record NoteMarked (s u : List ℕ) (r : Tally) (u′ : List ℕ) : Type 0 where
-  pub answer : r ≡ tally.tallyOf (firstDeep s) (length (spanRows s))
+  pub walk : Walk
+  pub answer : r ≡ tally.tallyOf (firstDeep s) walk
+  pub counted : tally.numberOf r ≡ 0 → walk .row ≡ length (spanRows s)
   pub table : tally.numberOf r ≡ 0 → u′ ≡ spansFilled (spanRows s) u
 
 -- the answer after refusals 1 to 3, where the note has `count` definitions, and the table u has become u′

@@ -6,6 +6,7 @@ ghost use Rattle.paragraph.specs.Promise.{Lent};
 ghost use Rattle.notice.specs.Promise.{Promise};
 ghost use Rattle.notice.specs.Spans.{Defined, NoteMarked, SpansRead};
 use paragraph::Tally;
+use step::Walk;
 use text::Checked;
 use walk::Paragraph;
 
@@ -37,10 +38,10 @@ fn note_spans(
     ensures { λ r. ⌜ NoteMarked (now (note .entry)) (now (spans .entry)) r (now (spans .exit)) ⌝ }
 {
     let mut at = 0;
-    let mut k = 0;
+    let mut w = Walk::first();
     loop {
         let Paragraph::At(start, end, next) = walk::next_paragraph(note, at) else {
-            return Tally::Spans(k);
+            return Tally::Spans(w);
         };
         match paragraph::read_paragraph(
             note,
@@ -49,13 +50,13 @@ fn note_spans(
             definitions,
             count,
             spans,
-            k,
+            w,
             stack,
             runs,
             marks,
         ) {
             Tally::Deep(place) => return Tally::Deep(start + place),
-            Tally::Spans(n) => k = n,
+            Tally::Spans(v) => w = v,
         }
         at = next;
     }
@@ -67,7 +68,7 @@ fn read_spans(note: &[u8], definitions: &[u32], count: usize, spans: &mut [u32])
     ensures { λ r. ⌜ SpansRead (now (note .entry)) count (now (spans .entry)) r (now (spans .exit)) ⌝ }
 {
     // Made once for a note, and lent to each paragraph.
-    let mut stack = [0; paragraph::DEPTH_LIMIT];
+    let mut stack = [0; paragraph::STACK];
     let mut runs = [0; ticks::LENGTHS];
     let mut marks = [0u8; MARKS];
     match note_spans(
@@ -80,13 +81,13 @@ fn read_spans(note: &[u8], definitions: &[u32], count: usize, spans: &mut [u32])
         &mut marks,
     ) {
         Tally::Deep(place) => Reading::Deep(place),
-        Tally::Spans(n) => {
+        Tally::Spans(w) => {
             // Here too nothing is read again where there is no row to store.
-            if n == 0 {
+            if w.row == 0 {
                 return Reading::Read(count, 0);
             }
-            if span::whole_rows(spans) < n {
-                return Reading::FewSpans(n);
+            if span::whole_rows(spans) < w.row {
+                return Reading::FewSpans(w.row);
             }
             note_spans(
                 note,
@@ -97,7 +98,7 @@ fn read_spans(note: &[u8], definitions: &[u32], count: usize, spans: &mut [u32])
                 &mut runs,
                 &mut marks,
             );
-            Reading::Read(count, n)
+            Reading::Read(count, w.row)
         }
     }
 }

@@ -81,12 +81,12 @@ module _ (s : List ℕ) (ds : List Definition) (q : Placed) (m : Marking Tail) (
           let ends : d .end + lengthOf t ≡ d′ .end + lengthOf t′ = ap (λ (x : Span Tail). wholeOf x .end) spans in
           absurd (omega arith)
 
-  spans-apart : (x y : Span Tail) → SpanOf m x → SpanOf m y → isCode (spanRow (q .at) (q .bytes) ds x) ≡ isCode (spanRow (q .at) (q .bytes) ds y)
+  spans-apart : (x y : Span Tail) → SpanOf m x → SpanOf m y → isCode (spanRow s (q .at) (q .bytes) ds x) ≡ isCode (spanRow s (q .at) (q .bytes) ds y)
       → wholeOf x .end < wholeOf y .end → wholeOf x .end ≤ wholeOf y .start
   spans-apart (codeSpan x) (codeSpan y) a b e l = codes-apart x y a b l
   spans-apart (linkSpan o d t) (linkSpan o′ d′ t′) a b e l = links-apart o d o′ d′ t t′ a b l
-  spans-apart (codeSpan x) (linkSpan o d t) a b e l = absurd (true≢false (e ∙ link-is-no-code (q .at) (q .bytes) ds o d t))
-  spans-apart (linkSpan o d t) (codeSpan y) a b e l = absurd (true≢false (sym e ∙ link-is-no-code (q .at) (q .bytes) ds o d t))
+  spans-apart (codeSpan x) (linkSpan o d t) a b e l = absurd (true≢false (e ∙ link-is-no-code s (q .at) (q .bytes) ds o d t))
+  spans-apart (linkSpan o d t) (codeSpan y) a b e l = absurd (true≢false (sym e ∙ link-is-no-code s (q .at) (q .bytes) ds o d t))
 
 paragraphs-apart : {s : List ℕ} {from : ℕ} {ps : List Placed} → Ordered s from ps → (j k : ℕ) (a b : Placed) → getElem? ps j ≡ some a → getElem? ps k ≡ some b → j < k
     → a .at + length (a .bytes) ≤ b .at
@@ -107,7 +107,7 @@ module _ (s : List ℕ) where
       let ends = later-ends-later s i j x y l e d in
       cases a b ends (row-reaches s n x a) (row-reaches s n y b) (decLt (a .index) (b .index)) (decLt (b .index) (a .index))
     where
-      cases : (a : RowOf (n .definitions) (n .paragraphs) (n .markings) x) (b : RowOf (n .definitions) (n .paragraphs) (n .markings) y) → rowEnd x < rowEnd y
+      cases : (a : RowOf s (n .definitions) (n .paragraphs) (n .markings) x) (b : RowOf s (n .definitions) (n .paragraphs) (n .markings) y) → rowEnd x < rowEnd y
           → (a .paragraph .at ≤ rowStart x) × (rowStart x ≤ rowEnd x) × (rowEnd x ≤ a .paragraph .at + length (a .paragraph .bytes))
           → (b .paragraph .at ≤ rowStart y) × (rowStart y ≤ rowEnd y) × (rowEnd y ≤ b .paragraph .at + length (b .paragraph .bytes))
           → Dec (a .index < b .index) → Dec (b .index < a .index) → rowEnd x ≤ rowStart y

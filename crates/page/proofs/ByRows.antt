@@ -37,7 +37,7 @@ use Rattle.page.proofs.Ranges.{range-read}
 use Rattle.page.proofs.Tiling.{range-some}
 
 -- ---- a paragraph
-module _ (s : List ℕ) (ds : List Definition) (q : Placed) (m : Marking Tail) (c : MarkingOf s ds q m) (w : Inside s q) (rows : List (List ℕ)) (h : RowsHere ds q m rows) where
+module _ (s : List ℕ) (ds : List Definition) (q : Placed) (m : Marking Tail) (c : MarkingOf s ds q m) (w : Inside s q) (rows : List (List ℕ)) (h : RowsHere s ds q m rows) where
   content-read : {v : List ℕ} → RangeIs s rows q 0 (length (q .bytes)) v → contentFrom s rows 0 (q .bytes) (q .at) ≡ v
   content-read {v} r =
       ap (contentFrom s rows 0 (q .bytes)) (sym (add-zero (q .at)))

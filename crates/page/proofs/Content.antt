@@ -61,7 +61,7 @@ trails-or-not x opens e = others (λ z. opening≢trailing (ap role (sym e) ∙ 
 trails-or-not x closes e = others (λ z. closing≢trailing (ap role (sym e) ∙ z))
 trails-or-not x tail e = trails e
 
-module _ (s : List ℕ) (ds : List Definition) (q : Placed) (m : Marking Tail) (c : MarkingOf s ds q m) (w : Inside s q) (rows : List (List ℕ)) (h : RowsHere ds q m rows) where
+module _ (s : List ℕ) (ds : List Definition) (q : Placed) (m : Marking Tail) (c : MarkingOf s ds q m) (w : Inside s q) (rows : List (List ℕ)) (h : RowsHere s ds q m rows) where
   abbrev rest : ℕ → List ℕ
   rest a = from s rows (q .bytes) (q .at) a
 

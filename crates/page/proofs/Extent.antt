@@ -25,15 +25,15 @@ use Rattle.note.proofs.Spans.{link-read, code-some}
 use Rattle.page.specs.Reading.{isCode, rowStart, textEnd}
 
 module _ (s : List ℕ) (ds : List Definition) (q : Placed) (m : Marking Tail) (c : MarkingOf s ds q m) where
-  span-some : (x : Span Tail) → SpanOf m x → rowStart (spanRow (q .at) (q .bytes) ds x) < rowEnd (spanRow (q .at) (q .bytes) ds x)
+  span-some : (x : Span Tail) → SpanOf m x → rowStart (spanRow s (q .at) (q .bytes) ds x) < rowEnd (spanRow s (q .at) (q .bytes) ds x)
   span-some (codeSpan y) o = omega (arith, code-some (q .bytes) (labelsOf s ds) m c y o)
   span-some (linkSpan a b t) o =
       let r = link-read (q .bytes) (labelsOf s ds) m c a b t o in
       let w = span-within (q .bytes) (labelsOf s ds) m c (linkSpan a b t) o in
       omega (arith, r .some-bracket, r .one-bracket, w .text-ordered)
 
-  link-ends : (x : Span Tail) → SpanOf m x → isCode (spanRow (q .at) (q .bytes) ds x) ≡ false
-      → (rowStart (spanRow (q .at) (q .bytes) ds x) < textEnd (spanRow (q .at) (q .bytes) ds x)) × (textEnd (spanRow (q .at) (q .bytes) ds x) < rowEnd (spanRow (q .at) (q .bytes) ds x))
+  link-ends : (x : Span Tail) → SpanOf m x → isCode (spanRow s (q .at) (q .bytes) ds x) ≡ false
+      → (rowStart (spanRow s (q .at) (q .bytes) ds x) < textEnd (spanRow s (q .at) (q .bytes) ds x)) × (textEnd (spanRow s (q .at) (q .bytes) ds x) < rowEnd (spanRow s (q .at) (q .bytes) ds x))
   link-ends (codeSpan y) o e = absurd (true≢false e)
   link-ends (linkSpan a b t) o e =
       let r = link-read (q .bytes) (labelsOf s ds) m c a b t o in
@@ -42,10 +42,10 @@ module _ (s : List ℕ) (ds : List Definition) (q : Placed) (m : Marking Tail) (
 
 module _ (s : List ℕ) (n : Marked s) where
   -- the row of a span as it is read
-  pub read : (row : List ℕ) (r : RowOf (n .definitions) (n .paragraphs) (n .markings) row) → spanRow (r .paragraph .at) (r .paragraph .bytes) (n .definitions) (r .span) ≡ row
-  read row r = row-read (r .paragraph .at) (r .paragraph .bytes) (n .definitions) (r .row-is)
+  pub read : (row : List ℕ) (r : RowOf s (n .definitions) (n .paragraphs) (n .markings) row) → spanRow s (r .paragraph .at) (r .paragraph .bytes) (n .definitions) (r .span) ≡ row
+  read row r = row-read s (r .paragraph .at) (r .paragraph .bytes) (n .definitions) (r .row-is)
 
-  pub row-reaches : (row : List ℕ) (r : RowOf (n .definitions) (n .paragraphs) (n .markings) row)
+  pub row-reaches : (row : List ℕ) (r : RowOf s (n .definitions) (n .paragraphs) (n .markings) row)
       → (r .paragraph .at ≤ rowStart row) × (rowStart row ≤ rowEnd row) × (rowEnd row ≤ r .paragraph .at + length (r .paragraph .bytes))
   row-reaches row r =
       let c = pair-at (n .each) (r .index) (r .paragraph) (r .marking) (r .paragraph-at) (r .marking-at) in

@@ -50,21 +50,21 @@ module _ (s : List ℕ) (n : Marked s) where
 
   module _ (k : ℕ) (q : Placed) (m : Marking Tail) (e : getElem? (n .paragraphs) k ≡ some q) (d : getElem? (n .markings) k ≡ some m) where
     -- a row whose paragraph has the index k
-    pub row-of : (row : List ℕ) (r : RowOf (n .definitions) (n .paragraphs) (n .markings) row) → r .index ≡ k → RowHere (n .definitions) q m row
+    pub row-of : (row : List ℕ) (r : RowOf s (n .definitions) (n .paragraphs) (n .markings) row) → r .index ≡ k → RowHere s (n .definitions) q m row
     row-of row r z =
         let a : r .paragraph ≡ q = Option·some-injective (r .paragraph) q (sym (r .paragraph-at) ∙ ap (getElem? (n .paragraphs)) z ∙ e) in
         let b : r .marking ≡ m = Option·some-injective (r .marking) m (sym (r .marking-at) ∙ ap (getElem? (n .markings)) z ∙ d) in
         record {
           span = r .span;
           of-marking = subst (λ (y : Marking Tail). SpanOf y (r .span)) b (r .of-marking);
-          row-is = ap (λ (y : Placed). spanRow (y .at) (y .bytes) (n .definitions) (r .span)) (sym a) ∙ read s n row r;
+          row-is = ap (λ (y : Placed). spanRow s (y .at) (y .bytes) (n .definitions) (r .span)) (sym a) ∙ read s n row r;
         }
 
-    pub rows-here : RowsHere (n .definitions) q m (spanRows s)
+    pub rows-here : RowsHere s (n .definitions) q m (spanRows s)
     rows-here =
         record {
           each = λ x o.
-              in-rows-iff s n (spanRow (q .at) (q .bytes) (n .definitions) x) .1
+              in-rows-iff s n (spanRow s (q .at) (q .bytes) (n .definitions) x) .1
               (record {
                 index = k;
                 paragraph = q;
@@ -73,7 +73,7 @@ module _ (s : List ℕ) (n : Marked s) where
                 marking-at = d;
                 span = x;
                 of-marking = o;
-                row-is = row-iff (q .bytes) (labelsOf s (n .definitions)) m (marking-of k q m e d) (q .at) (n .definitions) x o _ .1 refl;
+                row-is = row-iff (q .bytes) (labelsOf s (n .definitions)) m (marking-of k q m e d) s (q .at) (n .definitions) x o _ .1 refl;
               });
           covering = λ row h i l lo hi.
               let r = in-rows-iff s n row .0 h in

@@ -44,7 +44,7 @@ link-kind row (lo, hi) = ne-eqb (by-rows.spanOf row .kind) 1 (λ e. omega (arith
 regroup : (a b c d : List ℕ) → a ++ (b ++ (c ++ d)) ≡ a ++ b ++ c ++ d
 regroup a b c d = simp append-assoc
 
-module _ (s : List ℕ) (ds : List Definition) (q : Placed) (m : Marking Tail) (c : MarkingOf s ds q m) (w : Inside s q) (rows : List (List ℕ)) (h : RowsHere ds q m rows) where
+module _ (s : List ℕ) (ds : List Definition) (q : Placed) (m : Marking Tail) (c : MarkingOf s ds q m) (w : Inside s q) (rows : List (List ℕ)) (h : RowsHere s ds q m rows) where
   -- the page of the paragraph from its place a on
   abbrev rest : ℕ → List ℕ
   rest a = from s rows (q .bytes) (q .at) a

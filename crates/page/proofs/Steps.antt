@@ -47,7 +47,7 @@ escaped-close : escaped 93 ≡ 93 ∷ []
 unfolding escaped
 escaped-close = refl
 
-module _ (s : List ℕ) (ds : List Definition) (q : Placed) (m : Marking Tail) (c : MarkingOf s ds q m) (w : Inside s q) (rows : List (List ℕ)) (h : RowsHere ds q m rows) where
+module _ (s : List ℕ) (ds : List Definition) (q : Placed) (m : Marking Tail) (c : MarkingOf s ds q m) (w : Inside s q) (rows : List (List ℕ)) (h : RowsHere s ds q m rows) where
   -- the page of the paragraph from its place a on
   abbrev pub on-from : ℕ → List ℕ
   on-from a = from s rows (q .bytes) (q .at) a
@@ -79,7 +79,7 @@ module _ (s : List ℕ) (ds : List Definition) (q : Placed) (m : Marking Tail) (
   quiet : (x : Piece) → role (x .kind) ≢ closing → (o : Piece) (t : Tail) → LinkOf m o x t → ⊥
   quiet x n o t l = n (closing-role s ds q m c o x t l)
 
-  pub code-bytes : (x : Piece) → CodeOf m x → (r : List ℕ) → spanRow (q .at) (q .bytes) ds (codeSpan x) ≡ r → bytesOf s (text r) ≡ bytesOf (q .bytes) (textOf (q .bytes) (codeSpan x))
+  pub code-bytes : (x : Piece) → CodeOf m x → (r : List ℕ) → spanRow s (q .at) (q .bytes) ds (codeSpan x) ≡ r → bytesOf s (text r) ≡ bytesOf (q .bytes) (textOf (q .bytes) (codeSpan x))
   code-bytes x o r e =
       let t = textOf (q .bytes) (codeSpan x) in
       let b : SpanWithin (q .bytes) (codeSpan x) = span-within (q .bytes) (labelsOf s ds) m c (codeSpan x) o in
@@ -103,7 +103,7 @@ module _ (s : List ℕ) (ds : List Definition) (q : Placed) (m : Marking Tail) (
       let of : CodeOf m x = record { index = k; at = a; is-code = e } in
       by-found (firstRow (codeStarts (q .at + x .start)) rows)
       (λ r f.
-      let row : spanRow (q .at) (q .bytes) ds (codeSpan x) ≡ r = code-at s ds q m c rows h k x a (x .start) (omega arith) g l r f .1 in
+      let row : spanRow s (q .at) (q .bytes) ds (codeSpan x) ≡ r = code-at s ds q m c rows h k x a (x .start) (omega arith) g l r f .1 in
       let size : rowEnd r - rowStart r ≡ x .end - x .start = rw (← row) (omega arith) in
       on (quiet x (λ z. nothing≢closing (ap role (sym e) ∙ z)))
       (turn-code s rows (q .bytes) (q .at) (x .start) (x .end) r l f g size
@@ -122,7 +122,7 @@ module _ (s : List ℕ) (ds : List Definition) (q : Placed) (m : Marking Tail) (
       let b : Bare s rows (q .bytes) (q .at) i = record { no-code = no; no-opening = f; no-closing = no-close k x a i (omega arith) (omega arith) l opening≢closing } in
       turn-byte s rows (q .bytes) (q .at) i l b (no-escape (q .bytes) i 91 e refl) ∙ rw (f, e, escaped-open) refl))
 
-  closing-size : (i : ℕ) (o : Piece) (t : Tail) (r : List ℕ) → spanRow (q .at) (q .bytes) ds (linkSpan o (record { kind = kinds.closes; start = i; end = i + 1 }) t) ≡ r
+  closing-size : (i : ℕ) (o : Piece) (t : Tail) (r : List ℕ) → spanRow s (q .at) (q .bytes) ds (linkSpan o (record { kind = kinds.closes; start = i; end = i + 1 }) t) ≡ r
       → rowEnd r - textEnd r ≡ i + 1 + lengthOf t - i
   closing-size i o t r e = rw (← e) (omega arith)
 

@@ -51,7 +51,7 @@ module _ (s : List ℕ) (rows : List (List ℕ)) (q : Placed) where
   abbrev pub pieceText : Piece → List ℕ
   pieceText x = textBy (x .kind) x
 
-module _ (s : List ℕ) (ds : List Definition) (q : Placed) (m : Marking Tail) (c : MarkingOf s ds q m) (rows : List (List ℕ)) (h : RowsHere ds q m rows) where
+module _ (s : List ℕ) (ds : List Definition) (q : Placed) (m : Marking Tail) (c : MarkingOf s ds q m) (rows : List (List ℕ)) (h : RowsHere s ds q m rows) where
   module _ (k : ℕ) (x : Piece) (a : At (m .pieces) k x) where
     bracket-open : x .kind ≡ opens → role (x .kind) ≢ trailing
     bracket-open e z = opening≢trailing (ap role (sym e) ∙ z)
@@ -97,7 +97,7 @@ module _ (s : List ℕ) (ds : List Definition) (q : Placed) (m : Marking Tail) (
         let b = grows s ds q m c k x a (bracket-open e) in
         let o = open-at s ds q m c rows h k x a (x .start) (omega arith) b (stands-inside s ds q m c k x a (bracket-open e)) r g in
         let same = one-link s ds q m c x (o .closer) d (o .with-tail) t b (o .link) l in
-        let row : r ≡ spanRow (q .at) (q .bytes) ds (linkSpan x d t) = sym (o .row-is) ∙ ap (spanRow (q .at) (q .bytes) ds) same in
+        let row : r ≡ spanRow s (q .at) (q .bytes) ds (linkSpan x d t) = sym (o .row-is) ∙ ap (spanRow s (q .at) (q .bytes) ds) same in
         ap (λ (y : List ℕ). linkOpen (bytesOf s (destination y)) (bytesOf s (title y))) row
 
     close-only : (o : Piece) (t : Tail) → LinkOf m o x t → (f : Option (List ℕ)) → firstRow (linkCloses (q .at + x .start)) rows ≡ f → closeText f ≡ linkClose

@@ -39,11 +39,11 @@ use Rattle.page.proofs.Pieces.{RowsHere, grows, stands-inside, ends-ins
 use Rattle.page.proofs.Steps.{no-escape, tick-no-escape}
 
 -- "2 inline, 3 full, 4 collapsed, 5 shortcut"
-link-number : (at : ℕ) (p : List ℕ) (ds : List Definition) (o c : Piece) (t : Tail) → IsLink (spanRow at p ds (linkSpan o c t))
-link-number at p ds o c (inline n d t) = (omega arith, omega arith)
-link-number at p ds o c (full n k) = (omega arith, omega arith)
-link-number at p ds o c (collapsed k) = (omega arith, omega arith)
-link-number at p ds o c (shortcut k) = (omega arith, omega arith)
+link-number : (s : List ℕ) (at : ℕ) (p : List ℕ) (ds : List Definition) (o c : Piece) (t : Tail) → IsLink (spanRow s at p ds (linkSpan o c t))
+link-number s at p ds o c (inline n d t) = (omega arith, omega arith)
+link-number s at p ds o c (full n k) = (omega arith, omega arith)
+link-number s at p ds o c (collapsed k) = (omega arith, omega arith)
+link-number s at p ds o c (shortcut k) = (omega arith, omega arith)
 
 -- ---- where pieces end
 reach-next : (a : ℕ) (ps : List Piece) (k : ℕ) (x : Piece) → At ps k x → reach a (take (suc k) ps) ≡ x .end
@@ -55,7 +55,7 @@ reach-all : (a b : ℕ) (ps : List Piece) → Tiles a ps b → reach a ps ≡ b
 reach-all a b [] t = t
 reach-all a b (x ∷ ps) t = reach-all (x .end) b ps (t .2)
 
-module _ (s : List ℕ) (ds : List Definition) (q : Placed) (m : Marking Tail) (c : MarkingOf s ds q m) (w : Inside s q) (rows : List (List ℕ)) (h : RowsHere ds q m rows) where
+module _ (s : List ℕ) (ds : List Definition) (q : Placed) (m : Marking Tail) (c : MarkingOf s ds q m) (w : Inside s q) (rows : List (List ℕ)) (h : RowsHere s ds q m rows) where
   -- the law gives something from place a to place b
   abbrev Some : ℕ → ℕ → Type 0
   Some a b = (v : List ℕ) × RangeIs s rows q a b v
@@ -104,7 +104,7 @@ module _ (s : List ℕ) (ds : List Definition) (q : Placed) (m : Marking Tail) (
     text-at : i < length (q .bytes) → TextAt s rows q i
     text-at l row j (u, v) = let r = h .covering row j i l u v in cases (r .span) (r .of-marking) (r .row-is)
       where
-        cases : (y : Span Tail) → SpanOf m y → spanRow (q .at) (q .bytes) ds y ≡ row → IsLink row × Within s rows q i (spanOf row .text)
+        cases : (y : Span Tail) → SpanOf m y → spanRow s (q .at) (q .bytes) ds y ≡ row → IsLink row × Within s rows q i (spanOf row .text)
         cases (codeSpan y) o e =
             let st : q .at + y .start ≡ rowStart row = ap rowStart e in
             let en : q .at + y .end ≡ rowEnd row = ap rowEnd e in
@@ -114,7 +114,7 @@ module _ (s : List ℕ) (ds : List Definition) (q : Placed) (m : Marking Tail) (
             let en : q .at + (d .end + lengthOf t) ≡ rowEnd row = ap rowEnd e in
             let low : o .end ≤ i = after-opening o d t y (omega arith) in
             let high : i < d .start = before-closing o d t y (omega arith) in
-            subst (λ (z : List ℕ). IsLink z × Within s rows q i (spanOf z .text)) e (link-number (q .at) (q .bytes) ds o d t, (omega arith, omega arith))
+            subst (λ (z : List ℕ). IsLink z × Within s rows q i (spanOf z .text)) e (link-number s (q .at) (q .bytes) ds o d t, (omega arith, omega arith))
 
   -- n bytes of text
   bytes : (n a : ℕ) → ((i : ℕ) → a ≤ i → i < a + n → TextAt s rows q i × (i < length (q .bytes)) × (escapes (drop i (q .bytes)) ≡ false)) → Some a (a + n)
@@ -131,7 +131,7 @@ module _ (s : List ℕ) (ds : List Definition) (q : Placed) (m : Marking Tail) (
   piece-range k {x} a n o d l u (an-escape {a = i} e) =
       (_, by-rows.escape (text-at k x a n (λ z. let y : _≡_ {A = ℕ} 0 1 = cc in absurd (omega arith)) o d i (omega arith) (omega arith) l) e)
   piece-range k {x} a n o d l u (code-span r f) =
-      (_, by-rows.code-span {row = spanRow (q .at) (q .bytes) ds (codeSpan x)} (h .each (codeSpan x) (record { index = k; at = a; is-code = refl })) refl refl (code-span-iff _ _ .1 refl))
+      (_, by-rows.code-span {row = spanRow s (q .at) (q .bytes) ds (codeSpan x)} (h .each (codeSpan x) (record { index = k; at = a; is-code = refl })) refl refl (code-span-iff _ _ .1 refl))
   piece-range k {x} a n o d l u (backticks {a = i} {n = j} r f) =
       bytes j i (λ y lo hi.
       (text-at k x a n (λ z. let y : _≡_ {A = ℕ} 0 1 = cc in absurd (omega arith)) o d y lo hi (omega arith), omega arith, tick-no-escape s ds q m c w rows h i j y r lo hi))
@@ -146,7 +146,7 @@ module _ (s : List ℕ) (ds : List Definition) (q : Placed) (m : Marking Tail) (
   link-range : (k j : ℕ) (x d : Piece) (t : Tail) → m .links k j ≡ some t → At (m .pieces) k x → At (m .pieces) j d → Some (x .end) (d .start) → Some (x .start) (d .end + lengthOf t)
   link-range k j x d t e a b (v, r) =
       let l : LinkOf m x d t = record { from = k; to = j; linked = e; open-at = a; close-at = b } in
-      (_, by-rows.link {row = spanRow (q .at) (q .bytes) ds (linkSpan x d t)} (h .each (linkSpan x d t) l) (link-number (q .at) (q .bytes) ds x d t) refl refl (link-open-iff _ _ _ .1 refl) r)
+      (_, by-rows.link {row = spanRow s (q .at) (q .bytes) ds (linkSpan x d t)} (h .each (linkSpan x d t) l) (link-number s (q .at) (q .bytes) ds x d t) refl refl (link-open-iff _ _ _ .1 refl) r)
 
   -- what a piece is to links
   data Sort (k : ℕ) (x : Piece) : Type 0 where

@@ -1,5 +1,5 @@
 -- What the loop keeps: from where the code stands, the scan comes to the same end as from its start.
-use Prim.Native.Nat.{ℕ, _+_, _-_, _≤_, _<_}
+use Prim.Native.Nat.{ℕ, _+_, _≤_, _<_}
 use native.Mathlib.Nat.{add-zero}
 use native.Mathlib.Omega.{arith}
 use mathlib.Core.Path.{_≡_, refl, sym, ap, _∙_}
@@ -7,6 +7,8 @@ use mathlib.Core.Bool.{false}
 use mathlib.Core.Option.{none}
 use mathlib.Core.List.{List, [], _∷_, _++_, map, map-append}
 use lib.ListN.{length, length-append, length-map}
+use Rattle.line.specs.Promise.{Before}
+use Rattle.line.proofs.Lines.{later}
 use Rattle.note.specs.Note.{depthLimit}
 use Rattle.scan.proofs.Test.{by}
 use Rattle.marking.specs.Marking.{role, Piece}
@@ -17,25 +19,25 @@ use Rattle.marking.specs.ReadingSpans.{Scan, scanFound, scanStep, scanStart, fi
 use Rattle.marking.proofs.Finish.{finish-step, finish-end, overs-step, overs-end, scan-grows, scan-within}
 use Rattle.row.specs.declared.Definition.{Definition}
 use Rattle.span.specs.declared.Span.{Span}
-use Rattle.span.specs.Row.{stored}
+use Rattle.span.specs.Row.{wholeRows, stored}
 use Rattle.inline.specs.Tails.{Tail}
 use Rattle.inline.specs.ReadingPieces.{pieceFrom}
 use Rattle.inline.specs.Reading.{grammar}
 use Rattle.inline.specs.ReadingRows.{rowFor}
 use Rattle.inline.proofs.Computing.{sound}
 use Rattle.step.specs.Reading.{storedAll}
-use Rattle.step.specs.Promise.{fromRow, spansAt, Steps}
+use Rattle.step.specs.Promise.{afresh, Lined, spansAt, Steps}
 use Rattle.paragraph.specs.Promise.{openPlaces, Waits, Reads}
 use Rattle.step.specs.declared.Walk.{Walk}
 use Rattle.paragraph.specs.declared.Tally.the-variants.{Spans}
 
 -- ---- rows stored one after the other
-pub stored-more : (t : List ℕ) (k : ℕ) (xs ys : List Span) → storedAll (storedAll t k xs) (k + length xs) ys ≡ storedAll t k (xs ++ ys)
+pub stored-more : (s : List ℕ) (t : List ℕ) (k : ℕ) (xs ys : List Span) → storedAll s (storedAll s t k xs) (k + length xs) ys ≡ storedAll s t k (xs ++ ys)
 unfolding storedAll
-stored-more t k [] ys = rw (add-zero k)
-stored-more t k (x ∷ xs) ys =
+stored-more s t k [] ys = rw (add-zero k)
+stored-more s t k (x ∷ xs) ys =
     let e : k + length (x ∷ xs) ≡ k + 1 + length xs = omega arith in
-    ap (λ (n : ℕ). storedAll (storedAll (stored t k x) (k + 1) xs) n ys) e ∙ stored-more (stored t k x) (k + 1) xs ys
+    ap (λ (n : ℕ). storedAll s (storedAll s (stored s t k x) (k + 1) xs) n ys) e ∙ stored-more s (stored s t k x) (k + 1) xs ys
 
 -- ---- a step of the scan
 few-spans : {T : Type 0} (f : ℕ → Piece) (q : Piece) (x : Match T) → length (newSpans f q x) ≤ 1
@@ -48,7 +50,7 @@ scan-eq : {T : Type 0} {a a′ : ℕ} {b b′ : List ℕ} {c c′ : ℕ} (xs : L
 scan-eq xs ea eb ec = rw (ea, eb, ec)
 
 -- ---- the invariant
-module _ (offset : ℕ) (p : List ℕ) (labels : List (List ℕ)) (ds : List Definition) (k : ℕ) (t₀ : List ℕ) where
+module _ (s : List ℕ) (offset : ℕ) (p : List ℕ) (labels : List (List ℕ)) (ds : List Definition) (k : ℕ) (t₀ : List ℕ) where
   abbrev g : Grammar Tail
   g = grammar p labels
 
@@ -64,46 +66,56 @@ module _ (offset : ℕ) (p : List ℕ) (labels : List (List ℕ)) (ds : List Def
     pub same-end : finish g (scanOf stack w xs) ≡ finish g scanStart
     pub same-over : overs depthLimit g (scanOf stack w xs) ≡ overs depthLimit g scanStart
     pub row-is : w .row ≡ k + length xs
-    pub table-is : t ≡ storedAll t₀ k (rows xs)
+    pub table-is : t ≡ storedAll s t₀ k (rows xs)
     pub few : length xs ≤ w .at
     pub bounded : w .at ≤ length p
-    pub waits : Waits p w stack
+    pub waits : Waits s offset p (wholeRows t₀) w stack
+    pub inside : offset + length p ≤ length s
+    pub line-before : Before s (w .line) (offset + w .at)
 
-  pub on-start : (stack : List ℕ) → depthLimit ≤ length stack → On stack (fromRow k) t₀
+  pub on-start : (stack : List ℕ) → depthLimit + depthLimit ≤ length stack → offset + length p ≤ length s → (w : Walk) → w .row ≡ k → Before s (w .line) offset → On stack (afresh w) t₀
   unfolding scanStart storedAll
-  on-start stack e =
+  on-start stack e i w q b =
       record {
         xs = [];
         same-end = refl;
         same-over = refl;
-        row-is = sym (add-zero k);
+        row-is = omega arith;
         table-is = refl;
         few = omega arith;
         bounded = omega arith;
-        waits = record { room = e; fits = omega arith; each = λ i h. absurd (omega arith) };
+        waits = record { room = e; fits = omega arith; each = λ i h. absurd (omega arith); lines-are = λ r i h. absurd (omega arith) };
+        inside = i;
+        line-before = later b (omega arith) (omega arith);
       }
 
   module _ {stack : List ℕ} {w : Walk} {t : List ℕ} (o : On stack w t) where
-    pub on-end : length p ≤ w .at → Reads offset p labels ds k t₀ (Spans (w .row)) t
+    pub on-end : length p ≤ w .at → Reads s offset p labels ds k t₀ (Spans w) t
     unfolding over spans
     on-end h =
         let f : over depthLimit g ≡ none = sym (o .same-over) ∙ overs-end depthLimit g (scanOf stack w (o .xs)) h in
-        let e : spans g ≡ o .xs = ap (λ (s : Scan Tail). s .spans) (sym (o .same-end) ∙ finish-end g (scanOf stack w (o .xs)) h) in
+        let e : spans g ≡ o .xs = ap (λ (x : Scan Tail). x .spans) (sym (o .same-end) ∙ finish-end g (scanOf stack w (o .xs)) h) in
         record {
-          answer = rw (f, e) (ap (λ (n : ℕ). Spans n) (o .row-is));
+          walk = w;
+          answer = rw f refl;
+          row = λ z. rw e (o .row-is);
+          line = λ z. later (o .line-before) (omega (arith, o .bounded)) (o .inside);
           table = λ z. rw e (o .table-is);
           few = λ z. rw e (omega (arith, o .few, o .bounded));
         }
 
     module _ (h : w .at < length p) where
+      pub lined-here : Lined s offset w
+      lined-here = record { before = o .line-before; inside = omega (arith, o .inside) }
+
       abbrev here : Scan Tail
       here = scanOf stack w (o .xs)
 
       -- the spans that end here
       abbrev more : Match Tail → List (marked.Span Tail)
-      more = spansAt offset p labels ds (w .at)
+      more = spansAt s offset p labels ds (w .at)
 
-      module _ (stack′ : List ℕ) {f : Match Tail} {w′ : Walk} {u : List ℕ} (s : Steps offset p labels ds f w t w′ u) (ef : scanFound g here ≡ f)
+      module _ (stack′ : List ℕ) {f : Match Tail} {w′ : Walk} {u : List ℕ} (y : Steps s offset p labels ds f w t w′ u) (ef : scanFound g here ≡ f)
           (es : stackBy (w .at) (openPlaces w stack) (role (pieceFrom p (w .at) .kind)) ≡ openPlaces w′ stack′) where
         next : scanStep g here ≡ scanOf stack′ w′ (o .xs ++ more f)
         unfolding scanStep
@@ -117,26 +129,31 @@ module _ (offset : ℕ) (p : List ℕ) (labels : List (List ℕ)) (ds : List Def
               spans = o .xs ++ newSpans (pieceAt g) (pieceAt g (w .at)) x;
             }))
             ef
-            ∙ scan-eq (o .xs ++ more f) (sym (s .at)) es (sym (s .last))
+            ∙ scan-eq (o .xs ++ more f) (sym (y .at)) es (sym (y .last))
 
         pub on-less : w .at < w′ .at
         on-less = omega (arith, scan-grows g (sound p labels) here h, ap (λ (x : Scan Tail). x .place) next)
 
-        pub on-next : overAt depthLimit g here ≡ false → Waits p w′ stack′ → On stack′ w′ u
-        on-next eo waits =
+        on-within : w′ .at ≤ length p
+        on-within = omega (arith, scan-within g (sound p labels) here h, ap (λ (x : Scan Tail). x .place) next)
+
+        pub on-next : overAt depthLimit g here ≡ false → Waits s offset p (wholeRows t₀) w′ stack′ → Before s (w′ .line) (offset + w .at) → On stack′ w′ u
+        on-next eo waits b =
             let l : length (o .xs ++ more f) ≡ length (o .xs) + length (more f) = length-append (o .xs) (more f) in
             record {
               xs = o .xs ++ more f;
               same-end = ap (finish g) (sym next) ∙ sym (finish-step g (sound p labels) here h) ∙ o .same-end;
               same-over = ap (overs depthLimit g) (sym next) ∙ sym (overs-step depthLimit g (sound p labels) here h eo) ∙ o .same-over;
-              row-is = omega (arith, s .row, o .row-is);
+              row-is = omega (arith, y .row, o .row-is);
               table-is = table-more;
               few = omega (arith, o .few, few-spans (pieceAt g) (pieceAt g (w .at)) f, on-less);
-              bounded = omega (arith, scan-within g (sound p labels) here h, ap (λ (x : Scan Tail). x .place) next);
+              bounded = on-within;
               waits = waits;
+              inside = o .inside;
+              line-before = later b (omega (arith, on-less)) (omega (arith, on-within, o .inside));
             }
           where
-            table-more : u ≡ storedAll t₀ k (rows (o .xs ++ more f))
+            table-more : u ≡ storedAll s t₀ k (rows (o .xs ++ more f))
             table-more =
                 let e : w .row ≡ k + length (rows (o .xs)) = rw (length-map (o .xs) (rowFor offset p ds)) (o .row-is) in
-                s .table ∙ rw (o .table-is, e, map-append (rowFor offset p ds) (o .xs) (more f)) (stored-more t₀ k (rows (o .xs)) (rows (more f)))
+                y .table ∙ rw (o .table-is, e, map-append (rowFor offset p ds) (o .xs) (more f)) (stored-more s t₀ k (rows (o .xs)) (rows (more f)))

@@ -38,19 +38,19 @@ unfolding past
 plain-after p a e = omega arith
 
 abbrev moved : Walk → ℕ → Walk
-moved w at = record { at = at; last = w .last; row = w .row; depth = w .depth }
+moved w at = record { at = at; last = w .last; row = w .row; depth = w .depth; line = w .line }
 
-module _ (offset : ℕ) (p : List ℕ) (labels : List (List ℕ)) (ds : List Definition) (k : ℕ) (t₀ : List ℕ) {stack : List ℕ} {t : List ℕ} where
-  run-on : (n : ℕ) (w : Walk) → On offset p labels ds k t₀ stack w t → run quiet (drop (w .at) p) ≡ n
-      → On offset p labels ds k t₀ stack (moved w (w .at + n)) t
+module _ (s : List ℕ) (offset : ℕ) (p : List ℕ) (labels : List (List ℕ)) (ds : List Definition) (k : ℕ) (t₀ : List ℕ) {stack : List ℕ} {t : List ℕ} where
+  run-on : (n : ℕ) (w : Walk) → On s offset p labels ds k t₀ stack w t → run quiet (drop (w .at) p) ≡ n
+      → On s offset p labels ds k t₀ stack (moved w (w .at + n)) t
   run-on zero w o e = rw (add-zero (w .at)) o
   run-on (suc n) w o e =
       let q = run-first p (w .at) n e in
-      let s = step-quiet offset p labels ds w t (piece plain (w .at) (w .at + 1)) (at-quiet p (w .at) q) refl (w .depth) in
-      let o′ = piece-on offset p labels ds k t₀ o (run-inside p (w .at) n e) (quiet-other p (w .at) q 91 refl) (λ z. absurd (quiet-other p (w .at) q 93 refl z)) s refl in
+      let y = step-quiet s offset p labels ds w t (piece plain (w .at) (w .at + 1)) (at-quiet p (w .at) q) refl (w .depth) (w .line) in
+      let o′ = piece-on s offset p labels ds k t₀ o (run-inside p (w .at) n e) (quiet-other p (w .at) q 91 refl) (λ z. absurd (quiet-other p (w .at) q 93 refl z)) y refl (o .line-before) in
       let m : w .at + 1 + n ≡ w .at + suc n = omega arith in
       rw m at (run-on n (moved w (w .at + 1)) o′ (run-rest p (w .at) n e))
 
-  pub plain-on : {w : Walk} → On offset p labels ds k t₀ stack w t → {r : ℕ} → r ≡ past quiet p (w .at) → On offset p labels ds k t₀ stack (moved w r) t
+  pub plain-on : {w : Walk} → On s offset p labels ds k t₀ stack w t → {r : ℕ} → r ≡ past quiet p (w .at) → On s offset p labels ds k t₀ stack (moved w r) t
   unfolding past
   plain-on {w} o e = rw e (run-on (run quiet (drop (w .at) p)) w o refl)

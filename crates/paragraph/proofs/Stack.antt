@@ -1,34 +1,38 @@
 -- The places on the stack are those of the brackets that are open, past a `[` and past a `]`.
-use Prim.Native.Nat.{ℕ, _+_, _-_, _≤_, _<_}
+use Prim.Native.Nat.{ℕ, _+_, _-_, _≤_, _<_, _^_}
 use native.Mathlib.Numerals.{add-one}
 use native.Mathlib.Omega.{arith}
 use native.Mathlib.Decide.{ℕ-discrete}
-use mathlib.Core.Path.{_≡_, refl, sym, ap, _∙_}
+use mathlib.Core.Path.{_≡_, refl, sym, ap, _∙_, subst}
 use mathlib.Core.List.{List, [], _∷_, reverse, reverse-append, tail}
 use lib.ListN.{length, getD, take, set, length-set, length-take, length-reverse}
-use lib.Seq.{take-suc, take-suc-set, getD-set-same, getD-set-other}
+use lib.Seq.{take-suc, take-suc-set, take-set-le, getD-set-same, getD-set-other}
+use Rattle.line.specs.Line.{lineOf}
+use Rattle.line.specs.Promise.{Before}
+use Rattle.line.specs.declared.Line.{Line}
 use Rattle.note.specs.Note.{depthLimit}
 use Rattle.marking.specs.Marking.{opening, closing, role, Piece, opens}
 use Rattle.marking.specs.Reading.{foundBy, foundClosing, stackBy}
 use Rattle.marking.specs.ReadingSpans.{scanFound, scanStep}
 use Rattle.marking.proofs.Finish.{scan-grows}
 use Rattle.row.specs.declared.Definition.{Definition}
+use Rattle.span.specs.Row.{wholeRows}
 use Rattle.inline.specs.ReadingPieces.{piece, pieceFrom}
 use Rattle.inline.specs.Reading.{grammar}
 use Rattle.inline.proofs.Computing.{sound}
 use Rattle.step.specs.Promise as walk
-use Rattle.step.specs.Promise.{Pair, Steps, Closes}
-use Rattle.paragraph.specs.Promise.{openPlaces, Waits, opened, Brackets, matchAt}
+use Rattle.step.specs.Promise.{Lined, lined, LinedPair, Steps, Closes}
+use Rattle.paragraph.specs.Promise.{openPlaces, lineBeside, Waits, opened, pushed, Brackets, matchAt}
 use Rattle.step.specs.declared.Walk.{Walk}
 use Rattle.inline.proofs.Pieces.{at-open, at-close}
-use Rattle.step.proofs.Step.{step-quiet}
+use Rattle.step.proofs.Step.{step-quiet, still-lined, line-known}
 
 -- one less than so many, of which there is one
 pub inner : {d : ℕ} → 0 < d → d ≡ d - 1 + 1
 inner h = omega arith
 
-push : (st : List ℕ) (d a : ℕ) → d < length st → a ∷ reverse (take d st) ≡ reverse (take (d + 1) (set st d a))
-push st d a h = rw (add-one d, take-suc-set st d a h, reverse-append)
+push : (st : List ℕ) (d a m n : ℕ) → d < length st → d < m → a ∷ reverse (take d st) ≡ reverse (take (d + 1) (set (set st d a) m n))
+push st d a m n h l = rw (take-set-le (d + 1) (set st d a) m n (omega arith), add-one d, take-suc-set st d a h, reverse-append)
 
 pop : (st : List ℕ) (d : ℕ) → d < length st → reverse (take (d + 1) st) ≡ getD st d 0 ∷ reverse (take d st)
 pop st d h = rw (add-one d, take-suc st d 0 h, reverse-append)
@@ -39,69 +43,120 @@ opens-here p at e = ap (λ (x : Piece). role (x .kind)) (at-open p at e)
 pub closes-here : (p : List ℕ) (at : ℕ) → getD p at 0 ≡ 93 → role (pieceFrom p at .kind) ≡ closing
 closes-here p at e = ap (λ (x : Piece). role (x .kind)) (at-close p at e)
 
-module _ (p : List ℕ) (w : Walk) (stack : List ℕ) (s : Waits p w stack) where
+module _ (s : List ℕ) (offset : ℕ) (p : List ℕ) (rows : ℕ) (w : Walk) (stack : List ℕ) (x : Waits s offset p rows w stack) where
   pub open-length : length (openPlaces w stack) ≡ w .depth
-  open-length = length-reverse (take (w .depth) stack) ∙ omega (arith, length-take (w .depth) stack, s .room, s .fits)
+  open-length = length-reverse (take (w .depth) stack) ∙ omega (arith, length-take (w .depth) stack, x .room, x .fits)
 
   -- further on, with no more of them open
-  pub waits-later : (w′ : Walk) → w′ .depth ≤ w .depth → w .at ≤ w′ .at → Waits p w′ stack
-  waits-later w′ d l =
+  pub waits-later : (w′ : Walk) → w′ .depth ≤ w .depth → w .at ≤ w′ .at → w .row ≤ w′ .row → Waits s offset p rows w′ stack
+  waits-later w′ d l m =
       record {
-        room = s .room;
-        fits = omega (arith, s .fits);
-        each = λ i h. (s .each i (omega arith) .0, omega (arith, s .each i (omega arith) .1));
+        room = x .room;
+        fits = omega (arith, x .fits);
+        each = λ i h. (x .each i (omega arith) .0, omega (arith, x .each i (omega arith) .1));
+        lines-are = λ r i h. x .lines-are (omega arith) i (omega arith);
       }
 
-  -- ---- a `[`
-  module _ (e : getD p (w .at) 0 ≡ 91) (d : w .depth < depthLimit) where
-    waits-opened : Waits p (opened w) (set stack (w .depth) (w .at))
-    waits-opened = record { room = omega (arith, length-set stack (w .depth) (w .at), s .room); fits = omega arith; each = each }
-      where
-        each : (i : ℕ) → i < w .depth + 1 → (getD p (getD (set stack (w .depth) (w .at)) i 0) 0 ≡ 91) × (getD (set stack (w .depth) (w .at)) i 0 < w .at + 1)
-        each i l = cases (ℕ-discrete i (w .depth))
-          where
-            cases : Dec (i ≡ w .depth) → (getD p (getD (set stack (w .depth) (w .at)) i 0) 0 ≡ 91) × (getD (set stack (w .depth) (w .at)) i 0 < w .at + 1)
-            cases (yes q) = rw (q, getD-set-same stack (w .depth) (w .at) 0 (omega (arith, s .room))) (e, omega arith)
-            cases (no q) = rw (getD-set-other stack (w .depth) i (w .at) 0 q) (s .each i (omega arith) .0, omega (arith, s .each i (omega arith) .1))
+pub opened-by : (s : List ℕ) (offset : ℕ) (t : List ℕ) (w : Walk) {c : Walk} → c ≡ lined s offset t w
+    → record { at = w .at + 1; last = c .last; row = c .row; depth = w .depth + 1; line = c .line } ≡ opened (lined s offset t w)
+opened-by s offset t w e = rw e refl
 
-    pub bracket-opens : (offset : ℕ) (labels : List (List ℕ)) (ds : List Definition) (t : List ℕ) → Brackets offset p labels ds w stack t (opened w) (set stack (w .depth) (w .at)) t
-    bracket-opens offset labels ds t =
+-- ---- a `[`
+-- what stands on the stack with a place and a line on top
+module _ (stack : List ℕ) (w : Walk) (n : ℕ) (room : depthLimit + depthLimit ≤ length stack) (d : w .depth < depthLimit) where
+  abbrev stack′ : List ℕ
+  stack′ = pushed stack w n
+
+  at-top : getD stack′ (w .depth) 0 ≡ w .at
+  at-top =
+      getD-set-other (set stack (w .depth) (w .at)) (depthLimit + w .depth) (w .depth) n 0 (λ q. omega arith)
+      ∙ getD-set-same stack (w .depth) (w .at) 0 (omega arith)
+
+  line-at-top : lineBeside stack′ (w .depth) ≡ n
+  line-at-top = getD-set-same (set stack (w .depth) (w .at)) (depthLimit + w .depth) n 0 (omega (arith, length-set stack (w .depth) (w .at)))
+
+  below : (i : ℕ) → i < w .depth → getD stack′ i 0 ≡ getD stack i 0
+  below i h =
+      getD-set-other (set stack (w .depth) (w .at)) (depthLimit + w .depth) i n 0 (λ q. omega arith)
+      ∙ getD-set-other stack (w .depth) i (w .at) 0 (λ q. omega arith)
+
+  line-below : (i : ℕ) → i < w .depth → lineBeside stack′ i ≡ lineBeside stack i
+  line-below i h =
+      getD-set-other (set stack (w .depth) (w .at)) (depthLimit + w .depth) (depthLimit + i) n 0 (λ q. omega arith)
+      ∙ getD-set-other stack (w .depth) (depthLimit + i) (w .at) 0 (λ q. omega arith)
+
+-- past it the line is that of its place, if it is asked for
+module _ (s : List ℕ) (offset : ℕ) (p : List ℕ) (t : List ℕ) (w : Walk) (stack : List ℕ) (x : Waits s offset p (wholeRows t) w stack) (l : Lined s offset w)
+    (e : getD p (w .at) 0 ≡ 91) (d : w .depth < depthLimit) where
+  abbrev c : Walk
+  c = lined s offset t w
+
+  abbrev new : List ℕ
+  new = pushed stack w (c .line .number)
+
+  each : (i : ℕ) → i < w .depth + 1 → (getD p (getD new i 0) 0 ≡ 91) × (getD new i 0 < w .at + 1)
+  each i h = cases (ℕ-discrete i (w .depth))
+    where
+      cases : Dec (i ≡ w .depth) → (getD p (getD new i 0) 0 ≡ 91) × (getD new i 0 < w .at + 1)
+      cases (yes q) = rw (q, at-top stack w (c .line .number) (x .room) d) (e, omega arith)
+      cases (no q) = rw (below stack w (c .line .number) (x .room) d i (omega arith)) (x .each i (omega arith) .0, omega (arith, x .each i (omega arith) .1))
+
+  lines-are : w .row < wholeRows t → (i : ℕ) → i < w .depth + 1 → lineBeside new i ≡ lineOf s (offset + getD new i 0)
+  lines-are r i h = cases (ℕ-discrete i (w .depth))
+    where
+      cases : Dec (i ≡ w .depth) → lineBeside new i ≡ lineOf s (offset + getD new i 0)
+      cases (yes q) = rw (q, line-at-top stack w (c .line .number) (x .room) d, at-top stack w (c .line .number) (x .room) d) (line-known s offset t w l refl r)
+      cases (no q) =
+          rw (line-below stack w (c .line .number) (x .room) d i (omega arith), below stack w (c .line .number) (x .room) d i (omega arith)) (x .lines-are r i (omega arith))
+
+  pub bracket-opens : (labels : List (List ℕ)) (ds : List Definition) → Brackets s offset p labels ds w stack t (opened c) new t
+  bracket-opens labels ds =
+      record {
+        steps = rw (opens-here p (w .at) e) (step-quiet s offset p labels ds w t (piece opens (w .at) (w .at + 1)) (at-open p (w .at) e) refl _ _);
+        still-open = sym (ap (stackBy (w .at) (openPlaces w stack)) (opens-here p (w .at) e) ∙ push stack (w .depth) (w .at) _ _ (omega (arith, x .room)) (omega arith));
+        waits = record {
+          room = omega (arith, length-set (set stack (w .depth) (w .at)) (depthLimit + w .depth) (c .line .number), length-set stack (w .depth) (w .at), x .room);
+          fits = omega arith;
+          each = each;
+          lines-are = lines-are;
+        };
+        counted = still-lined s offset t w l refl;
+      }
+
+-- ---- a `]` with the innermost `[`
+module _ (s : List ℕ) (offset : ℕ) (p : List ℕ) (t : List ℕ) (w : Walk) (stack : List ℕ) (x : Waits s offset p (wholeRows t) w stack)
+    (h : w .at < length p) (e : getD p (w .at) 0 ≡ 93) (d : ℕ) (ed : w .depth ≡ d + 1) where
+  abbrev top : ℕ
+  top = getD stack d 0
+
+  -- without it
+  abbrev popped : Walk
+  popped = record { at = w .at; last = w .last; row = w .row; depth = d; line = w .line }
+
+  pub pair-popped : lineBeside stack d < 2 ^ 32 → LinedPair s offset p t popped top (lineBeside stack d)
+  pair-popped small =
+      let m = x .each d (omega arith) in
+      record { pair = record { open-at = m .0; close-at = e; before = m .1; inside = h }; small = small; is-line = λ r. x .lines-are r d (omega arith) }
+
+  on-top : openPlaces w stack ≡ top ∷ reverse (take d stack)
+  on-top = ap (λ (n : ℕ). reverse (take n stack)) ed ∙ pop stack d (omega (arith, x .fits, x .room))
+
+  module _ (labels : List (List ℕ)) (ds : List Definition) where
+    step-grows : {u : List ℕ} {w′ : Walk} → Steps s offset p labels ds (matchAt s offset p labels ds w (openPlaces w stack)) w t w′ u → w .at < w′ .at
+    unfolding scanStep scanFound
+    step-grows m = omega (arith, m .at, scan-grows (grammar p labels) (sound p labels) (record { place = w .at; stack = openPlaces w stack; last-link = w .last; spans = [] }) h)
+
+    pairs : matchAt s offset p labels ds w (openPlaces w stack) ≡ walk.closing s offset p labels ds popped top
+    pairs =
+        ap (foundBy (λ a. grammar p labels .tailAt (grammar p labels .endAt a) (w .at)) (w .last) (openPlaces w stack)) (closes-here p (w .at) e)
+        ∙ ap (foundClosing (λ a. grammar p labels .tailAt (grammar p labels .endAt a) (w .at)) (w .last)) on-top
+
+    pub bracket-closes : Lined s offset w → {u : List ℕ} {w′ : Walk} → Closes s offset p labels ds top popped t w′ u → Brackets s offset p labels ds w stack t w′ stack u
+    bracket-closes l {u} {w′} c =
+        let m : Steps s offset p labels ds (matchAt s offset p labels ds w (openPlaces w stack)) w t w′ u = rw pairs (record { at = c .0 .at; last = c .0 .last; row = c .0 .row; table = c .0 .table }) in
         record {
-          steps = rw (opens-here p (w .at) e) (step-quiet offset p labels ds w t (piece opens (w .at) (w .at + 1)) (at-open p (w .at) e) refl _);
-          still-open = sym (ap (stackBy (w .at) (openPlaces w stack)) (opens-here p (w .at) e) ∙ push stack (w .depth) (w .at) (omega (arith, s .room)));
-          waits = waits-opened;
+          steps = m;
+          still-open = sym (ap (stackBy (w .at) (openPlaces w stack)) (closes-here p (w .at) e) ∙ ap tail on-top ∙ ap (λ (n : ℕ). reverse (take n stack)) (sym (c .1)));
+          waits = waits-later s offset p (wholeRows t) w stack x w′ (omega (arith, c .1, ed)) (omega (arith, step-grows m)) (omega (arith, m .row));
+          counted = subst (λ (n : Line). Before s n (offset + w .at)) (sym (c .2)) (l .before);
         }
-
-  -- ---- a `]` with the innermost `[`
-  module _ (h : w .at < length p) (e : getD p (w .at) 0 ≡ 93) (d : ℕ) (ed : w .depth ≡ d + 1) where
-    abbrev top : ℕ
-    top = getD stack d 0
-
-    -- without it
-    abbrev popped : Walk
-    popped = record { at = w .at; last = w .last; row = w .row; depth = d }
-
-    pub pair-popped : Pair p popped top
-    pair-popped = let l = s .each d (omega arith) in record { open-at = l .0; close-at = e; before = l .1; inside = h }
-
-    on-top : openPlaces w stack ≡ top ∷ reverse (take d stack)
-    on-top = ap (λ (x : ℕ). reverse (take x stack)) ed ∙ pop stack d (omega (arith, s .fits, s .room))
-
-    module _ (offset : ℕ) (labels : List (List ℕ)) (ds : List Definition) where
-      step-grows : {t u : List ℕ} {w′ : Walk} → Steps offset p labels ds (matchAt offset p labels ds w (openPlaces w stack)) w t w′ u → w .at < w′ .at
-      unfolding scanStep scanFound
-      step-grows m = omega (arith, m .at, scan-grows (grammar p labels) (sound p labels) (record { place = w .at; stack = openPlaces w stack; last-link = w .last; spans = [] }) h)
-
-      pairs : matchAt offset p labels ds w (openPlaces w stack) ≡ walk.closing offset p labels ds popped top
-      pairs =
-          ap (foundBy (λ a. grammar p labels .tailAt (grammar p labels .endAt a) (w .at)) (w .last) (openPlaces w stack)) (closes-here p (w .at) e)
-          ∙ ap (foundClosing (λ a. grammar p labels .tailAt (grammar p labels .endAt a) (w .at)) (w .last)) on-top
-
-      pub bracket-closes : {t u : List ℕ} {w′ : Walk} → Closes offset p labels ds top popped t w′ u → Brackets offset p labels ds w stack t w′ stack u
-      bracket-closes {t} {u} {w′} c =
-          let m : Steps offset p labels ds (matchAt offset p labels ds w (openPlaces w stack)) w t w′ u = rw pairs (record { at = c .0 .at; last = c .0 .last; row = c .0 .row; table = c .0 .table }) in
-          record {
-            steps = m;
-            still-open = sym (ap (stackBy (w .at) (openPlaces w stack)) (closes-here p (w .at) e) ∙ ap tail on-top ∙ ap (λ (x : ℕ). reverse (take x stack)) (sym (c .1)));
-            waits = waits-later w′ (omega (arith, c .1, ed)) (omega (arith, step-grows m));
-          }

@@ -1,14 +1,15 @@
 -- The ways through a turn of the loop.
-use Prim.Native.Nat.{ℕ, _+_, _-_, _≤_, _<_, _^_}
+use Prim.Native.Nat.{ℕ, _+_, _-_, _/_, _≤_, _<_, _^_}
 use native.Mathlib.Omega.{arith}
 use native.Mathlib.Decide.{ℕ-discrete}
-use mathlib.Core.Path.{_≡_, refl, sym, ap, _∙_}
+use mathlib.Core.Path.{_≡_, refl, sym, ap, _∙_, subst, subst⁻¹}
 use mathlib.Core.Bool.{true, false, _&&_}
 use mathlib.Core.Option.{Option, some}
 use mathlib.Core.List.{List, [], reverse}
 use borrow.Author.Tests.{eq-eqb, ne-eqb, eqb-true, lt-leb, le-leb, ltb-true, ltb-false}
 use lib.Dec.{eqb, ltb}
-use lib.ListN.{length, getD, take, drop, set, length-take, length-drop}
+use lib.ListN.{length, getD, take, drop, length-take, length-drop}
+use Rattle.line.specs.Promise.{Before}
 use Rattle.note.specs.Note.{depthLimit}
 use Rattle.scan.proofs.Test.{by, and-left, and-right}
 use Rattle.scan.specs.Byte.{escapes}
@@ -22,19 +23,20 @@ use Rattle.marking.proofs.Finish.{overs-deep}
 use Rattle.row.specs.declared.Definition.{Definition}
 use Rattle.row.specs.Row.{range}
 use Rattle.row.specs.First.{bytesOf}
+use Rattle.span.specs.Row.{width, wholeRows}
 use Rattle.inline.specs.Pieces.{backtick}
 use Rattle.inline.specs.Tails.{Tail}
 use Rattle.inline.specs.ReadingPieces.{closingRun, piece, spanOrText, pieceFrom}
 use Rattle.inline.proofs.Turns.{from-escape, from-backticks, from-byte}
 use Rattle.inline.specs.Reading.{grammar}
 use Rattle.paragraph.specs.Tally.{tallyOf}
-use Rattle.step.specs.Promise.{Bounds, Steps}
-use Rattle.paragraph.specs.Promise.{openPlaces, opened, Closing, Lies, roleAt, Brackets, Reads}
+use Rattle.step.specs.Promise.{lined, Bounds, Steps}
+use Rattle.paragraph.specs.Promise.{openPlaces, Waits, opened, pushed, Closing, Lies, roleAt, Brackets, Reads}
 use Rattle.step.specs.declared.Walk.{Walk}
 use Rattle.paragraph.specs.declared.Tally.the-variants.{Deep}
 use Rattle.inline.proofs.Pieces.{at-close}
 use Rattle.paragraph.proofs.Stack.{opens-here, closes-here, open-length, waits-later, bracket-opens}
-use Rattle.paragraph.proofs.Loop.{On, on-next, on-less}
+use Rattle.paragraph.proofs.Loop.{On, lined-here, on-next, on-less}
 
 -- ---- a piece that is no bracket
 run-role : (a e : ℕ) (f : Place) → role (spanOrText a e f .kind) ≡ nothing
@@ -73,8 +75,12 @@ closing-test p w h t =
 unpaired : (b d : ℕ) → (eqb b 93 && ltb 0 d) ≡ false → b ≡ 93 → d ≡ 0
 unpaired b d f e = let l = ltb-false 0 d (rw (eq-eqb b 93 e) at f) in omega arith
 
-module _ (offset : ℕ) (p : List ℕ) (labels : List (List ℕ)) (ds : List Definition) (k : ℕ) (t₀ : List ℕ) {stack : List ℕ} {w : Walk} {t : List ℕ}
-    (o : On offset p labels ds k t₀ stack w t) (h : w .at < length p) where
+-- as many rows fit as before
+rows-same : (t t₀ : List ℕ) → length t ≡ length t₀ → wholeRows t ≡ wholeRows t₀
+rows-same t t₀ e = ap (λ (n : ℕ). n / width) e
+
+module _ (s : List ℕ) (offset : ℕ) (p : List ℕ) (labels : List (List ℕ)) (ds : List Definition) (k : ℕ) (t₀ : List ℕ) {stack : List ℕ} {w : Walk} {t : List ℕ}
+    (o : On s offset p labels ds k t₀ stack w t) (h : w .at < length p) where
   abbrev waiting : List ℕ
   waiting = openPlaces w stack
 
@@ -82,10 +88,10 @@ module _ (offset : ℕ) (p : List ℕ) (labels : List (List ℕ)) (ds : List Def
   tailsHere a = grammar p labels .tailAt (grammar p labels .endAt a) (w .at)
 
   abbrev roleHere : Role
-  roleHere = roleAt offset p labels ds (w .at)
+  roleHere = roleAt s offset p labels ds (w .at)
 
   waiting-length : length waiting ≡ w .depth
-  waiting-length = open-length p w stack (o .waits)
+  waiting-length = open-length s offset p (wholeRows t₀) w stack (o .waits)
 
   -- ---- a piece in no pair
   module _ (n : getD p (w .at) 0 ≡ 91 → ⊥) (m : getD p (w .at) 0 ≡ 93 → w .depth ≡ 0) where
@@ -96,58 +102,70 @@ module _ (offset : ℕ) (p : List ℕ) (labels : List (List ℕ)) (ds : List Def
         cases (yes e) = idle-closing tailsHere (w .last) (w .at) waiting roleHere (ap (λ (x : Piece). role (x .kind)) (at-close p (w .at) e)) (ap (λ (d : ℕ). reverse (take d stack)) (m e))
         cases (no e) = idle-nothing tailsHere (w .last) (w .at) waiting roleHere (quiet-role p (w .at) n e)
 
-    module _ {w′ : Walk} {u : List ℕ} (s : Steps offset p labels ds alone w t w′ u) (d : w′ .depth ≡ w .depth) where
+    module _ {w′ : Walk} {u : List ℕ} (y : Steps s offset p labels ds alone w t w′ u) (d : w′ .depth ≡ w .depth) where
       same-open : stackBy (w .at) waiting roleHere ≡ openPlaces w′ stack
       same-open = idle .stack ∙ ap (λ (x : ℕ). reverse (take x stack)) (sym d)
 
       piece-less : w .at < w′ .at
       unfolding scanFound
-      piece-less = on-less offset p labels ds k t₀ o h stack s (idle .found) same-open
+      piece-less = on-less s offset p labels ds k t₀ o h stack y (idle .found) same-open
 
-      pub piece-on : On offset p labels ds k t₀ stack w′ u
+      pub piece-on : Before s (w′ .line) (offset + w .at) → On s offset p labels ds k t₀ stack w′ u
       unfolding scanFound
-      piece-on = on-next offset p labels ds k t₀ o h stack s (idle .found) same-open (idle .room) (waits-later p w stack (o .waits) w′ (omega (arith, d)) (omega (arith, piece-less)))
+      piece-on b =
+          on-next s offset p labels ds k t₀ o h stack y (idle .found) same-open (idle .room)
+          (waits-later s offset p (wholeRows t₀) w stack (o .waits) w′ (omega (arith, d)) (omega (arith, piece-less)) (omega (arith, y .row))) b
 
   -- ---- a bracket
-  module _ (room : tooDeep depthLimit waiting roleHere ≡ false) {w′ : Walk} {stack′ u : List ℕ} (s : Brackets offset p labels ds w stack t w′ stack′ u) where
+  module _ (room : tooDeep depthLimit waiting roleHere ≡ false) (same : length t ≡ length t₀) {w′ : Walk} {stack′ u : List ℕ} (y : Brackets s offset p labels ds w stack t w′ stack′ u) where
     bracket-less : w .at < w′ .at
     unfolding scanFound
-    bracket-less = on-less offset p labels ds k t₀ o h stack′ (s .steps) refl (sym (s .still-open))
+    bracket-less = on-less s offset p labels ds k t₀ o h stack′ (y .steps) refl (sym (y .still-open))
 
-    bracket-on : On offset p labels ds k t₀ stack′ w′ u
+    bracket-on : On s offset p labels ds k t₀ stack′ w′ u
     unfolding scanFound
-    bracket-on = on-next offset p labels ds k t₀ o h stack′ (s .steps) refl (sym (s .still-open)) room (s .waits)
+    bracket-on =
+        on-next s offset p labels ds k t₀ o h stack′ (y .steps) refl (sym (y .still-open)) room
+        (subst (λ (n : ℕ). Waits s offset p n w′ stack′) (rows-same t t₀ same) (y .waits)) (y .counted)
 
   -- ---- what the code has where its ways meet
   abbrev Turned : Walk → List ℕ → List ℕ → Type 0
-  Turned w′ stack′ u = On offset p labels ds k t₀ stack′ w′ u × (w .at < w′ .at)
+  Turned w′ stack′ u = On s offset p labels ds k t₀ stack′ w′ u × (w .at < w′ .at)
 
-  pub open-turn : (e : getD p (w .at) 0 ≡ 91) → (w .depth ≡ depthLimit → ⊥) → {w′ : Walk} {stack′ u : List ℕ} → w′ ≡ opened w → stack′ ≡ set stack (w .depth) (w .at) → u ≡ t → Turned w′ stack′ u
-  open-turn e n ew es eu =
+  pub waits-here : length t ≡ length t₀ → Waits s offset p (wholeRows t) w stack
+  waits-here same = subst⁻¹ (λ (n : ℕ). Waits s offset p n w stack) (rows-same t t₀ same) (o .waits)
+
+  pub open-turn : length t ≡ length t₀ → (e : getD p (w .at) 0 ≡ 91) → (w .depth ≡ depthLimit → ⊥) → {w″ : Walk} {stack″ : List ℕ} → w″ ≡ opened (lined s offset t w)
+      → stack″ ≡ pushed stack w (w″ .line .number) → {w′ : Walk} {stack′ u : List ℕ} → w′ ≡ w″ → stack′ ≡ stack″ → u ≡ t → Turned w′ stack′ u
+  open-turn same e n ez el ew es eu =
       let d : w .depth < depthLimit = omega (arith, o .waits .fits) in
       let r : tooDeep depthLimit waiting roleHere ≡ false = ap (tooDeep depthLimit waiting) (opens-here p (w .at) e) ∙ lt-leb depthLimit (length waiting) (omega (arith, waiting-length)) in
-      let s = bracket-opens p w stack (o .waits) e d offset labels ds t in
-      rw (ew, es, eu) (bracket-on r s, bracket-less r s)
+      let y = bracket-opens s offset p t w stack (waits-here same) (lined-here s offset p labels ds k t₀ o h) e d labels ds in
+      rw (ew, es, el, ez, eu) (bracket-on r same y, bracket-less r same y)
 
-  pub close-turn : Closing p w → {w″ : Walk} {u″ : List ℕ} → Brackets offset p labels ds w stack t w″ stack u″ → {w′ : Walk} {stack′ u : List ℕ} → w′ ≡ w″ → stack′ ≡ stack → u ≡ u″ → Turned w′ stack′ u
-  close-turn c s ew es eu =
-      let r : tooDeep depthLimit waiting roleHere ≡ false = ap (tooDeep depthLimit waiting) (closes-here p (w .at) (c .close-at)) in
-      rw (ew, es, eu) (bracket-on r s, bracket-less r s)
-
-  pub piece-turn : (getD p (w .at) 0 ≡ 91 → ⊥) → (eqb (getD p (w .at) 0) 93 && ltb 0 (w .depth)) ≡ false → {w″ : Walk} {u″ : List ℕ} → Steps offset p labels ds alone w t w″ u″ → w″ .depth ≡ w .depth
+  pub close-turn : length t ≡ length t₀ → Closing p w → {w″ : Walk} {u″ : List ℕ} → Brackets s offset p labels ds w stack t w″ stack u″
       → {w′ : Walk} {stack′ u : List ℕ} → w′ ≡ w″ → stack′ ≡ stack → u ≡ u″ → Turned w′ stack′ u
-  piece-turn n f s d ew es eu =
+  close-turn same c y ew es eu =
+      let r : tooDeep depthLimit waiting roleHere ≡ false = ap (tooDeep depthLimit waiting) (closes-here p (w .at) (c .close-at)) in
+      rw (ew, es, eu) (bracket-on r same y, bracket-less r same y)
+
+  pub piece-turn : (getD p (w .at) 0 ≡ 91 → ⊥) → (eqb (getD p (w .at) 0) 93 && ltb 0 (w .depth)) ≡ false → {w″ : Walk} {u″ : List ℕ} → Steps s offset p labels ds alone w t w″ u″
+      → (w″ .depth ≡ w .depth) × Before s (w″ .line) (offset + w .at) → {w′ : Walk} {stack′ u : List ℕ} → w′ ≡ w″ → stack′ ≡ stack → u ≡ u″ → Turned w′ stack′ u
+  piece-turn n f y (d, b) ew es eu =
       let m = unpaired (getD p (w .at) 0) (w .depth) f in
-      rw (ew, es, eu) (piece-on n m s d, piece-less n m s d)
+      rw (ew, es, eu) (piece-on n m y d b, piece-less n m y d)
 
   -- ---- a `[` too many
-  pub deep-reads : getD p (w .at) 0 ≡ 91 → w .depth ≡ depthLimit → (u : List ℕ) → Reads offset p labels ds k t₀ (Deep (w .at)) u
+  pub deep-reads : getD p (w .at) 0 ≡ 91 → w .depth ≡ depthLimit → (u : List ℕ) → Reads s offset p labels ds k t₀ (Deep (w .at)) u
   unfolding over
   deep-reads e d u =
       let q : over depthLimit (grammar p labels) ≡ some (w .at) =
       sym (o .same-over) ∙ overs-deep depthLimit (grammar p labels) (record { place = w .at; stack = waiting; last-link = w .last; spans = o .xs }) h (ap (tooDeep depthLimit waiting) (opens-here p (w .at) e) ∙ le-leb depthLimit (length waiting) (omega (arith, waiting-length))) in
       record {
-        answer = sym (ap (λ (x : Option ℕ). tallyOf x (k + length (spans (grammar p labels)))) q);
+        walk = w;
+        answer = sym (ap (λ (x : Option ℕ). tallyOf x w) q);
+        row = λ z. let no : ⊥ = omega arith in absurd no;
+        line = λ z. let no : ⊥ = omega arith in absurd no;
         table = λ z. let no : ⊥ = omega arith in absurd no;
         few = λ z. let no : ⊥ = omega arith in absurd no;
       }
@@ -156,10 +174,10 @@ module _ (offset : ℕ) (p : List ℕ) (labels : List (List ℕ)) (ds : List Def
 pub part-length : (note : List ℕ) (start end : ℕ) → start ≤ end → end ≤ length note → length (bytesOf note (range start end)) ≡ end - start
 part-length note start end l m = simp (length-take, length-drop) (omega arith)
 
-pub bounds-here : {note : List ℕ} {start end count k : ℕ} (b : Lies note start end count k) {labels : List (List ℕ)} {ds : List Definition} {t₀ stack : List ℕ} {w : Walk} {t : List ℕ}
-    → On start (bytesOf note (range start end)) labels ds k t₀ stack w t → w .at < length (bytesOf note (range start end)) → (n : ℕ) → n < 2 ^ 32
+pub bounds-here : {note : List ℕ} {start end count : ℕ} {from : Walk} (b : Lies note start end count from) {k : ℕ} (ek : k ≡ from .row) {labels : List (List ℕ)} {ds : List Definition} {t₀ stack : List ℕ} {w : Walk} {t : List ℕ}
+    → On note start (bytesOf note (range start end)) labels ds k t₀ stack w t → w .at < length (bytesOf note (range start end)) → (n : ℕ) → n < 2 ^ 32
     → Bounds start (bytesOf note (range start end)) n w
-bounds-here {note} {start} {end} b o h n few =
+bounds-here {note} {start} {end} b ek o h n few =
     let e = part-length note start end (b .ordered) (b .inside) in
     record {
       places = omega (arith, e, b .ordered, b .inside, b .places);

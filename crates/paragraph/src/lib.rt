@@ -1,34 +1,40 @@
 // The spans of one paragraph, read from left to right.
 ghost use mathlib.Core.Path.{_≡_};
-ghost use lib.ListN.{set};
 ghost use Rattle.row.specs.First.{bytesOf};
 ghost use Rattle.row.specs.Row.{range};
 ghost use Rattle.row.specs.Reading.{Fit, definitionsFrom};
 ghost use Rattle.parens.specs.Unclosed.{Prepared};
 ghost use Rattle.tail.specs.Ending.{labelsIn};
-ghost use Rattle.step.specs.Promise.{Bounds};
-ghost use Rattle.paragraph.specs.Promise.{opened, Room, Waits, Closing, Brackets, Lies, Lent, Reads};
+ghost use Rattle.span.specs.Row.{wholeRows};
+ghost use Rattle.step.specs.Promise.{Bounds, Lined, lined};
+ghost use Rattle.paragraph.specs.Promise.{opened, pushed, Room, Waits, Closing, Brackets, Lies, Lent, Reads};
 use step::Walk;
 
 // The most brackets that may be open at once.
 pub const DEPTH_LIMIT: usize = 1024;
 
-// What the reading of paragraphs answers: the place of the first bracket too many, or the row after the last span's.
+// The numbers of the stack: a place for each bracket that may be open, and then a line for each.
+pub const STACK: usize = 2 * DEPTH_LIMIT;
+
+// What the reading of paragraphs answers: the place of the first bracket too many; or where the walk stands at the end, which tells the
+// row after the last span's and the last line that was asked for.
 pub enum Tally {
     Deep(usize),
-    Spans(usize),
+    Spans(Walk),
 }
 
-// Past the `[` at the walk's place, which is open from now on.
-fn open_bracket(w: Walk, stack: &mut [u32]) -> Walk
-    requires { ⌜ Room w (now stack) ⌝ }
-    ensures { λ r. ⌜ r ≡ opened w ⌝ }
-    ensures { λ _. ⌜ now (stack .exit) ≡ set (now (stack .entry)) (w .depth) (w .at) ⌝ }
+// Past the `[` at the walk's place, which is open from now on. Its place is kept in the first half of the stack, its line in the second.
+fn open_bracket(note: &[u8], start: usize, spans: &[u32], w: Walk, stack: &mut [u32]) -> Walk
+    requires { ⌜ Lined (now note) start w ⌝ }
+    requires { ⌜ Room start w (now stack) ⌝ }
+    ensures { λ r. ⌜ r ≡ opened (lined (now (note .entry)) start (now (spans .entry)) w) ⌝ }
+    ensures { λ r. ⌜ now (stack .exit) ≡ pushed (now (stack .entry)) w (r .line .number) ⌝ }
 {
     let at = w.at;
     let depth = w.depth;
+    let mut v = step::count_lines(note, start, spans, w);
     stack[depth] = at as u32;
-    let mut v = w;
+    stack[DEPTH_LIMIT + depth] = v.line.number as u32;
     v.at = at + 1;
     v.depth = depth + 1;
     v
@@ -47,21 +53,34 @@ fn close_bracket(
     marks: &mut [u8],
 ) -> Walk
     requires { ⌜ Closing (now p) w ⌝ }
-    requires { ⌜ Waits (now p) w (now stack) ⌝ }
+    requires { ⌜ Waits (now note) start (now p) (wholeRows (now spans)) w (now stack) ⌝ }
     requires { ⌜ Bounds start (now p) count w ⌝ }
     requires { ⌜ Fit (now note) (now definitions) count ⌝ }
     requires { ⌜ Prepared (now p) (w .at) (now marks) ⌝ }
-    ensures { λ r. ⌜ Brackets start (now (p .entry)) (labelsIn (now (note .entry)) (now (definitions .entry)) count) (definitionsFrom (now (definitions .entry)) 0 count) w (now (stack .entry)) (now (spans .entry)) r (now (stack .entry)) (now (spans .exit)) ⌝ }
+    requires { ⌜ Lined (now note) start w ⌝ }
+    ensures { λ r. ⌜ Brackets (now (note .entry)) start (now (p .entry)) (labelsIn (now (note .entry)) (now (definitions .entry)) count) (definitionsFrom (now (definitions .entry)) 0 count) w (now (stack .entry)) (now (spans .entry)) r (now (stack .entry)) (now (spans .exit)) ⌝ }
     ensures { λ r. ⌜ Prepared (now (p .entry)) (r .at) (now (marks .exit)) ⌝ }
 {
     let depth = w.depth - 1;
     let opening = stack[depth] as usize;
+    let line = stack[DEPTH_LIMIT + depth] as usize;
     let mut v = w;
     v.depth = depth;
-    step::close_pair(p, start, note, definitions, count, spans, v, opening, marks)
+    step::close_pair(
+        p,
+        start,
+        note,
+        definitions,
+        count,
+        spans,
+        v,
+        opening,
+        line,
+        marks,
+    )
 }
 
-// The spans of the paragraph that stands in the note from `start` to `end`: their rows go into the table from row `k` on,
+// The spans of the paragraph that stands in the note from `start` to `end`: their rows go into the table from the row of `from` on,
 // as far as they fit. Definitions are the first `count` rows of their table. `stack`, `runs` and `marks` are lent to be written in: what
 // they hold is of no account. One number of the last two says that nothing of this paragraph stands there yet; of the stack only
 // what has been put on it is read.
@@ -72,21 +91,21 @@ pub fn read_paragraph(
     definitions: &[u32],
     count: usize,
     spans: &mut [u32],
-    k: usize,
+    from: Walk,
     stack: &mut [u32],
     runs: &mut [u32; ticks::LENGTHS],
     marks: &mut [u8],
 ) -> Tally
-    requires { ⌜ Lies (now note) start end count k ⌝ }
+    requires { ⌜ Lies (now note) start end count from ⌝ }
     requires { ⌜ Fit (now note) (now definitions) count ⌝ }
     requires { ⌜ Lent (now note) (now stack) (now marks) ⌝ }
-    ensures { λ r. ⌜ Reads start (bytesOf (now (note .entry)) (range start end)) (labelsIn (now (note .entry)) (now (definitions .entry)) count) (definitionsFrom (now (definitions .entry)) 0 count) k (now (spans .entry)) r (now (spans .exit)) ⌝ }
+    ensures { λ r. ⌜ Reads (now (note .entry)) start (bytesOf (now (note .entry)) (range start end)) (labelsIn (now (note .entry)) (now (definitions .entry)) count) (definitionsFrom (now (definitions .entry)) 0 count) (from .row) (now (spans .entry)) r (now (spans .exit)) ⌝ }
 {
     let p = &note[start..end];
     runs[0] = 0;
     let size = p.len();
     marks[size] = 0;
-    let mut w = Walk::from_row(k);
+    let mut w = step::afresh(from);
     while w.at < size {
         let at = w.at;
         let b = p[at];
@@ -94,13 +113,13 @@ pub fn read_paragraph(
             if w.depth == DEPTH_LIMIT {
                 return Tally::Deep(at);
             }
-            w = open_bracket(w, stack);
+            w = open_bracket(note, start, spans, w, stack);
         } else if (b == 93) & (0 < w.depth) {
             w = close_bracket(p, start, note, definitions, count, spans, w, stack, marks);
         } else {
-            w = step::pass_piece(p, start, spans, w, runs);
+            w = step::pass_piece(p, start, note, spans, w, runs);
         }
         w.at = inline::plain_end(p, w.at);
     }
-    Tally::Spans(w.row)
+    Tally::Spans(w)
 }

@@ -4,6 +4,7 @@ use mathlib.Core.Path.{_≡_, refl}
 use mathlib.Core.List.{List, [], _∷_, _++_, map, flatMap}
 use lib.ListN.{length, replicate}
 use Rattle.scan.specs.Ascii.{ascii}
+use Rattle.line.specs.Line.{feeds, lineOf}
 use Rattle.scan.specs.Reading.{scan as scanBytes, run, past, leap, closingStep, closing}
 use Rattle.text.specs.Utf8.{table}
 use Rattle.text.specs.Sequences.{onesFrom, leadingOnes, sequenceLength, characters}
@@ -58,13 +59,13 @@ sample s a b n r t u p =
 abbrev example : List ℕ
 example = ascii "[max]: /q2/max \"June\"\n\nUse [max].\n"
 
--- "Definition row 1 4 7 14 16 20."
+-- "Definition row 1 4 7 14 16 20.", and it gains 1
 abbrev definitionRow : List ℕ
-definitionRow = 1 ∷ 4 ∷ 7 ∷ 14 ∷ 16 ∷ 20 ∷ []
+definitionRow = 1 ∷ 4 ∷ 7 ∷ 14 ∷ 16 ∷ 20 ∷ 1 ∷ []
 
--- "Span row 5 27 32 28 31 1 7 14 16 20."
+-- "Span row 5 27 32 28 31 1 7 14 16 20.", and it gains 3
 abbrev spanRow : List ℕ
-spanRow = 5 ∷ 27 ∷ 32 ∷ 28 ∷ 31 ∷ 1 ∷ 7 ∷ 14 ∷ 16 ∷ 20 ∷ []
+spanRow = 5 ∷ 27 ∷ 32 ∷ 28 ∷ 31 ∷ 1 ∷ 7 ∷ 14 ∷ 16 ∷ 20 ∷ 3 ∷ []
 
 -- "Page `<p>Use <a href="/q2/max" title="June">max</a>.</p>` and LF."
 abbrev html : List ℕ
@@ -73,13 +74,13 @@ html = ascii "<p>Use <a href=\"/q2/max\" title=\"June\">max</a>.</p>\n"
 abbrev pub samples : List Sample
 samples =
     -- exactly as much as is needed; one byte less; one byte more
-    sample example 6 10 51 (Rendered 1 1 51) definitionRow spanRow html
-    ∷ sample example 6 10 50 (ShortPage 51) definitionRow spanRow (old 50)
-    ∷ sample example 7 11 52 (Rendered 1 1 51) (definitionRow ++ 9 ∷ []) (spanRow ++ 9 ∷ []) (html ++ 9 ∷ [])
+    sample example 7 11 51 (Rendered 1 1 51) definitionRow spanRow html
+    ∷ sample example 7 11 50 (ShortPage 51) definitionRow spanRow (old 50)
+    ∷ sample example 8 12 52 (Rendered 1 1 51) (definitionRow ++ 9 ∷ []) (spanRow ++ 9 ∷ []) (html ++ 9 ∷ [])
     -- refusals 3 and 5 come before 6
-    ∷ sample example 5 9 0 (FewDefinitions 1) (old 5) (old 9) []
-    ∷ sample example 6 9 0 (FewSpans 1) definitionRow (old 9) []
-    ∷ sample example 6 10 0 (ShortPage 51) definitionRow spanRow []
+    ∷ sample example 6 10 0 (FewDefinitions 1) (old 6) (old 10) []
+    ∷ sample example 7 10 0 (FewSpans 1) definitionRow (old 10) []
+    ∷ sample example 7 11 0 (ShortPage 51) definitionRow spanRow []
     -- the empty note with an empty page
     ∷ sample [] 0 0 0 (Rendered 0 0 0) [] [] []
     ∷ sample [] 1 1 1 (Rendered 0 0 0) (old 1) (old 1) (old 1)
@@ -104,7 +105,7 @@ rendered x =
     }
 
 pub samples-hold : map rendered samples ≡ samples
-unfolding scanBytes run past leap closingStep closing onesFrom leadingOnes sequenceLength characters table rowFor starts characterLength goodLength firstBadPast firstBad checkOf
+unfolding feeds lineOf scanBytes run past leap closingStep closing onesFrom leadingOnes sequenceLength characters table rowFor starts characterLength goodLength firstBadPast firstBad checkOf
     inky fitsAfter fits labelEnd unclosed isLabel spaceFrom depthAfter rawStep rawRun judged destinationOf closer titleOf fold spaced formOf compared equals matches
     spans overWithin overs over finish scan scanStep scanFound scanStart blankLine lineLength blockRest blockLength partLength blockHere blocks Rows.rows Rows.filled matchFrom
     definition.lineAfter definition.titleAfter definition.endingAfter definition.afterLabel definition.afterIndent definition.definitionAt definition.takingFrom definition.definitionsFrom

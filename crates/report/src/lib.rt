@@ -5,9 +5,9 @@ use notice::answer;
 use rendering::Rendering;
 ghost use Prim.Native.Nat.{_<_, _≤_};
 
-const DEFINITION_WIDTH: usize = 6;
+const DEFINITION_WIDTH: usize = 7;
 
-const SPAN_WIDTH: usize = 10;
+const SPAN_WIDTH: usize = 11;
 
 pub fn text(bytes: &[u8]) {
     io::write_all(STDOUT_FILENO, bytes);

@@ -1,8 +1,8 @@
--- The ways through a turn of the lookup, which keeps `matchFrom k (the labels of the rows from k on) label ≡ r`.
-use Prim.Native.Nat.{ℕ, suc, _+_, _-_, _*_, _≤_, _<_}
+-- The ways through a turn of the lookup, which keeps what the rows left give.
+use Prim.Native.Nat.{ℕ, suc, _+_, _-_, _*_, _/_, _≤_, _<_}
 use native.Mathlib.Nat.{sub-zero}
 use native.Mathlib.Omega.{arith}
-use mathlib.Core.Path.{_≡_, sym, _∙_}
+use mathlib.Core.Path.{_≡_, refl, sym, ap, _∙_}
 use mathlib.Core.List.{List, _∷_}
 use mathlib.Core.Bool.{true, false}
 use Rattle.scan.specs.declared.Found.{Found}
@@ -21,31 +21,52 @@ pub match-miss : (k : ℕ) (l : List ℕ) (ls : List (List ℕ)) (label : List �
 unfolding matchFrom
 match-miss k l ls label e = rw (e, matchFrom)
 
--- part is what stands in row k as its label
-pub part-within : {note t : List ℕ} {n : ℕ} → Fit note t n → (k : ℕ) → k < n → {part : Range} → part ≡ rangeAt t (k * width) → Within note part
-part-within f k h p = rw p (f .labels k h)
-
 module _ (note t label : List ℕ) where
   -- what the lookup finds in n rows from row k on
   abbrev pub rowFrom : ℕ → ℕ → Found
   rowFrom k n = matchFrom k (labelsOf note (definitionsFrom t k n)) label
 
-  pub begins : (n : ℕ) → rowFrom 0 (n - 0) ≡ rowOf note t label n
+  -- the lookup in n rows stands at row k, which starts at place `at` of the table, and what is left gives r
+  pub record Stands (n at : ℕ) (r : Found) : Type 0 where
+    pub k : ℕ
+    pub start : at ≡ k * width
+    pub few : k ≤ n
+    pub rest : rowFrom k (n - k) ≡ r
+
+  pub begins : (n : ℕ) → Stands n 0 (rowOf note t label n)
   unfolding rowOf
-  begins n = rw sub-zero
+  begins n = record { k = 0; start = refl; few = omega arith; rest = rw sub-zero refl }
 
   less : (n k : ℕ) → k < n → n - k ≡ suc (n - (k + 1))
   less n k h = omega arith
 
-  module _ (n k : ℕ) {r : Found} (inv : rowFrom k (n - k) ≡ r) where
-    pub hit : k < n → {part : Range} → part ≡ rangeAt t (k * width) → matches (bytesOf note part) label ≡ true → At k ≡ r
-    unfolding definitionsFrom
-    hit h p e = sym (rw (less n k h) (match-hit k _ _ label (rw p at e))) ∙ inv
+  module _ {n at : ℕ} {r : Found} (inv : Stands n at r) where
+    row-here : at < n * width → inv .k < n
+    row-here h = omega (arith, inv .start)
 
-    pub miss : k < n → {part : Range} → part ≡ rangeAt t (k * width) → matches (bytesOf note part) label ≡ false → rowFrom (k + 1) (n - (k + 1)) ≡ r
-    unfolding definitionsFrom
-    miss h p e = sym (rw (less n k h) (match-miss k _ _ label (rw p at e))) ∙ inv
+    -- part is what stands there as its label
+    module _ (h : at < n * width) {part : Range} (p : part ≡ rangeAt t at) where
+      label-here : part ≡ rangeAt t (inv .k * width)
+      label-here = p ∙ ap (rangeAt t) (inv .start)
 
-    pub none : n ≤ k → Nothing ≡ r
+      pub part-within : Fit note t n → Within note part
+      part-within f = rw label-here (f .labels (inv .k) (row-here h))
+
+      pub hit : matches (bytesOf note part) label ≡ true → At (at / width) ≡ r
+      unfolding definitionsFrom
+      hit e =
+          let number : at / width ≡ inv .k = omega (arith, inv .start) in
+          rw number (sym (rw (less n (inv .k) (row-here h)) (match-hit (inv .k) _ _ label (rw label-here at e))) ∙ inv .rest)
+
+      pub miss : matches (bytesOf note part) label ≡ false → Stands n (at + width) r
+      unfolding definitionsFrom
+      miss e = record {
+        k = inv .k + 1;
+        start = omega (arith, inv .start);
+        few = omega (arith, row-here h);
+        rest = sym (rw (less n (inv .k) (row-here h)) (match-miss (inv .k) _ _ label (rw label-here at e))) ∙ inv .rest;
+      }
+
+    pub none : n * width ≤ at → Nothing ≡ r
     unfolding definitionsFrom matchFrom
-    none h = let z : n - k ≡ 0 = omega arith in rw z at inv
+    none h = let z : n - inv .k ≡ 0 = omega (arith, inv .start, inv .few) in rw z at (inv .rest)

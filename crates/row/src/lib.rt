@@ -1,8 +1,8 @@
-// The definition table: rows of six 32-bit numbers in a lent slice, and the lookup of a label in it.
+// The definition table: rows of seven 32-bit numbers in a lent slice, and the lookup of a label in it.
 ghost use mathlib.Core.Path.{_≡_};
-ghost use Prim.Native.Nat.{_+_, _<_};
+ghost use Prim.Native.Nat.{_+_, _<_, _^_};
 ghost use lib.ListN.{length};
-ghost use Rattle.row.specs.Row.{range, absent, definition, SmallPart, Small, wholeRows, storedRange, stored};
+ghost use Rattle.row.specs.Row.{range, absent, definition, SmallPart, Small, wholeRows, storedRange, storedOn};
 ghost use Rattle.row.specs.Reading.{rangeAt, definitionAt, Fit, rowOf};
 use scan::Found;
 
@@ -35,7 +35,7 @@ impl Range {
 
 impl Definition {
     // The numbers of a row.
-    pub const WIDTH: usize = 6;
+    pub const WIDTH: usize = 7;
 
     pub fn new(label: Range, destination: Range, title: Range) -> Definition
         ensures { λ r. ⌜ r ≡ definition label destination title ⌝ }
@@ -65,16 +65,18 @@ pub fn store_range(table: &mut [u32], at: usize, r: Range)
     table[at + 1] = r.end as u32;
 }
 
-// Stores the row of a definition as row `k` if it fits, and else leaves the table as it was.
-pub fn store(table: &mut [u32], k: usize, d: Definition)
+// Stores the row of a definition on this line as row `k` if it fits, and else leaves the table as it was.
+pub fn store(table: &mut [u32], k: usize, d: Definition, line: usize)
     requires { ⌜ Small d ⌝ }
-    ensures { λ _. ⌜ now (table .exit) ≡ stored (now (table .entry)) k d ⌝ }
+    requires { ⌜ line < 2 ^ 32 ⌝ }
+    ensures { λ _. ⌜ now (table .exit) ≡ storedOn line (now (table .entry)) k d ⌝ }
 {
     if k < whole_rows(table) {
         let at = k * Definition::WIDTH;
         store_range(table, at, d.label);
         store_range(table, at + 2, d.destination);
         store_range(table, at + 4, d.title);
+        table[at + 6] = line as u32;
     }
 }
 
@@ -105,25 +107,26 @@ pub fn definition_at(table: &[u32], k: usize) -> Definition
     }
 }
 
-// The first of `count` rows whose label equals `label`.
+// The first of `count` rows whose label equals `label`. Rows are passed by where they start, so that no row is numbered but the one found.
 pub fn lookup(note: &[u8], table: &[u32], count: usize, label: &[u8]) -> Found
     requires { ⌜ Fit (now note) (now table) count ⌝ }
     ensures { λ r. ⌜ r ≡ rowOf (now (note .entry)) (now (table .entry)) (now (label .entry)) count ⌝ }
 {
     let first = scan::peek(label, 0);
-    let mut k = 0;
+    let size = count * Definition::WIDTH;
+    let mut at = 0;
     'rows: loop {
-        if count <= k {
+        if size <= at {
             break Found::Nothing;
         }
-        let Range { start, end } = range_at(table, k * Definition::WIDTH);
+        let Range { start, end } = range_at(table, at);
         let own = &note[start..end];
         if matching::are_unlike(scan::peek(own, 0), first) {
-            k += 1;
+            at += Definition::WIDTH;
             continue 'rows;
         }
-        let mut i = 0;
-        let mut j = 0;
+        let mut i = matching::same_start(own, label);
+        let mut j = i;
         loop {
             if matching::same_at(own, label, i, j) {
                 i += 1;
@@ -133,11 +136,11 @@ pub fn lookup(note: &[u8], table: &[u32], count: usize, label: &[u8]) -> Found
             let p = matching::past_blanks(own, i);
             let q = matching::past_blanks(label, j);
             if !matching::agree_at(own, label, i, j, p, q) {
-                k += 1;
+                at += Definition::WIDTH;
                 continue 'rows;
             }
             if own.len() <= p {
-                break 'rows Found::At(k);
+                break 'rows Found::At(at / Definition::WIDTH);
             }
             i = p + 1;
             j = q + 1;

@@ -3,11 +3,13 @@ use Prim.Native.Nat.{ℕ, _+_, _*_, _≤_, _<_}
 use native.Mathlib.Nat.{add-assoc}
 use native.Mathlib.Numerals.{add-one}
 use native.Mathlib.Omega.{arith}
-use mathlib.Core.Path.{_≡_, _∙_}
+use mathlib.Core.Path.{_≡_, sym, ap, _∙_}
 use mathlib.Core.List.{List, [], _∷_, _++_, append-assoc}
 use lib.ListN.{length, take, drop, set, length-append}
 use lib.Seq.{length-take-le, take-at, drop-append-add, drop-drop, sets-eq}
-use borrow.Author.Tests.{lt-ltb, le-ltb}
+use borrow.Author.Tests.{lt-ltb, le-ltb, ltb-true, ltb-false}
+use lib.Dec.{ltb}
+use Rattle.scan.proofs.Test.{by}
 use Rattle.rows.specs.Rows.{wholeRows, put, stored}
 
 module _ (t : List ℕ) (at : ℕ) (a : List ℕ) (h : at + length a ≤ length t) where
@@ -41,3 +43,10 @@ module _ {A : Type 0} (width : ℕ) (numbers : A → List ℕ) (t : List ℕ) (k
   pub row-put : k < wholeRows width t → stored width numbers t k x ≡ put t (k * width) (numbers x)
   unfolding stored
   row-put h = rw (lt-ltb k (wholeRows width t) h)
+
+-- two ways to make the numbers of a row that agree where there is one
+pub stored-alike : {A : Type 0} (width : ℕ) (f g : A → List ℕ) (t : List ℕ) (k : ℕ) (x : A) → (k < wholeRows width t → f x ≡ g x) → stored width f t k x ≡ stored width g t k x
+stored-alike width f g t k x e =
+    by (ltb k (wholeRows width t))
+    (λ q. let h = ltb-true k (wholeRows width t) q in row-put width f t k x h ∙ ap (put t (k * width)) (e h) ∙ sym (row-put width g t k x h))
+    (λ q. let h = ltb-false k (wholeRows width t) q in sym (no-row width f t k x h) ∙ no-row width g t k x h)

@@ -1,4 +1,4 @@
--- Reading spans back from a table.
+-- Reading spans and their lines back from a table.
 use Prim.Native.Nat.{ℕ, _+_, _*_}
 use mathlib.Core.List.{List}
 use lib.ListN.{getD}
@@ -11,3 +11,7 @@ abbrev pub spanAt : List ℕ → ℕ → Span
 spanAt t k =
     let at = k * width in
     span (getD t at 0) (rangeAt t (at + 1)) (rangeAt t (at + 3)) (getD t (at + 5) 0) (rangeAt t (at + 6)) (rangeAt t (at + 8))
+
+-- the line in row k
+abbrev pub lineIn : List ℕ → ℕ → ℕ
+lineIn t k = getD t (k * width + 10) 0

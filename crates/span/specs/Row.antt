@@ -2,29 +2,35 @@
 use Prim.Native.Nat.{ℕ, _+_, _*_, _<_, _^_}
 use mathlib.Core.List.{List, [], _∷_}
 use lib.ListN.{take, drop}
+use Rattle.line.specs.Line.{lineOf}
 use Rattle.rows.specs.Rows
 use Rattle.row.specs.declared.Range.{Range}
 use Rattle.row.specs.Row.{absent, SmallPart}
 use Rattle.span.specs.declared.Span.{Span}
 
--- "Span table, ten 32-bit numbers a row"
+-- "Span table, ten 32-bit numbers a row", and document 02, request 9: "Each .. span row gets one more number at its end"
 abbrev pub width : ℕ
-width = 10
+width = 11
 
--- "kind, start, end, text start, text end, definition number (from 1; 0 if none), destination start and end, title start and end"
-abbrev pub numbers : Span → List ℕ
-numbers s =
-    s .kind
-    ∷ s .whole .start
-    ∷ s .whole .end
-    ∷ s .text .start
-    ∷ s .text .end
-    ∷ s .definition
-    ∷ s .destination .start
-    ∷ s .destination .end
-    ∷ s .title .start
-    ∷ s .title .end
+-- "kind, start, end, text start, text end, definition number (from 1; 0 if none), destination start and end, title start and end", and the line
+abbrev pub numbersOn : ℕ → Span → List ℕ
+numbersOn line x =
+    x .kind
+    ∷ x .whole .start
+    ∷ x .whole .end
+    ∷ x .text .start
+    ∷ x .text .end
+    ∷ x .definition
+    ∷ x .destination .start
+    ∷ x .destination .end
+    ∷ x .title .start
+    ∷ x .title .end
+    ∷ line
     ∷ []
+
+-- the row of a span of the note s: "the line .. of the span's start"
+abbrev pub numbers : List ℕ → Span → List ℕ
+numbers s x = numbersOn (lineOf s (x .whole .start)) x
 
 -- ---- the five kinds: "The five kinds of row have fixed numbers: 1 code span, 2 inline, 3 full, 4 collapsed, 5 shortcut."
 abbrev pub codeSpanKind : ℕ
@@ -68,28 +74,32 @@ abbrev pub shortcutRow : Range → Range → ℕ → Range → Range → Span
 shortcutRow = referenceRow shortcutKind
 
 -- ---- tables
-abbrev pub rows : List Span → List ℕ
-rows = Rows.rows numbers
+abbrev pub rows : List ℕ → List Span → List ℕ
+rows s = Rows.rows (numbers s)
 
 -- "fewer whole span rows lent than spans"
 abbrev pub wholeRows : List ℕ → ℕ
 wholeRows t = Rows.wholeRows width t
 
 -- the table after as many of these rows as fit were put in front
-abbrev pub filled : List Span → List ℕ → List ℕ
-filled = Rows.filled width numbers
+abbrev pub filled : List ℕ → List Span → List ℕ → List ℕ
+filled s = Rows.filled width (numbers s)
 
 -- the numbers of row k
 abbrev pub rowAt : List ℕ → ℕ → List ℕ
 rowAt t k = take width (drop (k * width) t)
 
--- a number and the two parts after it: the first five numbers of a row, or the last five
+-- a number and the two parts after it: the first five numbers of a row, or the five after them
 abbrev pub storedHalf : List ℕ → ℕ → ℕ → Range → Range → List ℕ
 storedHalf t at n a b = Rows.put t at (n ∷ a .start ∷ a .end ∷ b .start ∷ b .end ∷ [])
 
--- the table with the row of a span as row k, if there is one
-abbrev pub stored : List ℕ → ℕ → Span → List ℕ
-stored = Rows.stored width numbers
+-- the table with the row of a span on this line as row k, if there is one
+abbrev pub storedOn : ℕ → List ℕ → ℕ → Span → List ℕ
+storedOn line = Rows.stored width (numbersOn line)
+
+-- the same with the row of a span of the note s
+abbrev pub stored : List ℕ → List ℕ → ℕ → Span → List ℕ
+stored s = Rows.stored width (numbers s)
 
 -- a span's places and its definition's number are 32-bit numbers
 pub record Small (s : Span) : Type 0 where

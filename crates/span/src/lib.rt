@@ -1,9 +1,9 @@
-// The span table: rows of ten 32-bit numbers in a lent slice.
+// The span table: rows of eleven 32-bit numbers in a lent slice.
 ghost use mathlib.Core.Path.{_≡_};
 ghost use Prim.Native.Nat.{_+_, _<_, _^_};
 ghost use lib.ListN.{length};
 ghost use Rattle.row.specs.Row.{SmallPart};
-ghost use Rattle.span.specs.Row.{codeSpanRow, inlineRow, referenceRow, fullRow, collapsedRow, shortcutRow, Small, wholeRows, storedHalf, stored};
+ghost use Rattle.span.specs.Row.{codeSpanRow, inlineRow, referenceRow, fullRow, collapsedRow, shortcutRow, Small, wholeRows, storedHalf, storedOn};
 ghost use Rattle.span.specs.Reading.{spanAt};
 use row::Range;
 
@@ -20,7 +20,7 @@ pub struct Span {
 
 impl Span {
     // The numbers of a row.
-    pub const WIDTH: usize = 10;
+    pub const WIDTH: usize = 11;
 
     pub const CODE_SPAN: u32 = 1;
 
@@ -109,7 +109,7 @@ pub fn whole_rows(table: &[u32]) -> usize
     table.len() / Span::WIDTH
 }
 
-// Stores a number and two parts after it, from `at` on: half a row.
+// Stores a number and two parts after it, from `at` on: half of what stands before the line.
 fn store_half(table: &mut [u32], at: usize, n: u32, a: Range, b: Range)
     requires { ⌜ at + 4 < length (now table) ⌝ }
     requires { ⌜ SmallPart a ⌝ }
@@ -121,15 +121,17 @@ fn store_half(table: &mut [u32], at: usize, n: u32, a: Range, b: Range)
     row::store_range(table, at + 3, b);
 }
 
-// Stores the row of a span as row `k` if it fits, and else leaves the table as it was.
-pub fn store(table: &mut [u32], k: usize, s: Span)
+// Stores the row of a span that starts on this line as row `k` if it fits, and else leaves the table as it was.
+pub fn store(table: &mut [u32], k: usize, s: Span, line: usize)
     requires { ⌜ Small s ⌝ }
-    ensures { λ _. ⌜ now (table .exit) ≡ stored (now (table .entry)) k s ⌝ }
+    requires { ⌜ line < 2 ^ 32 ⌝ }
+    ensures { λ _. ⌜ now (table .exit) ≡ storedOn line (now (table .entry)) k s ⌝ }
 {
     if k < whole_rows(table) {
         let at = k * Span::WIDTH;
         store_half(table, at, s.kind, s.whole, s.text);
         store_half(table, at + 5, s.definition as u32, s.destination, s.title);
+        table[at + 10] = line as u32;
     }
 }
 

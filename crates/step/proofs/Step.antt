@@ -1,7 +1,7 @@
 -- One step past a piece, by what the piece comes to.
-use Prim.Native.Nat.{ℕ, _+_, _-_, _≤_, _<_}
+use Prim.Native.Nat.{ℕ, _+_, _≤_, _<_, _^_}
 use native.Mathlib.Omega.{arith}
-use mathlib.Core.Path.{_≡_, refl, sym, ap, _∙_}
+use mathlib.Core.Path.{_≡_, refl, sym, ap, _∙_, subst}
 use mathlib.Core.Bool.{Bool, true, false, cond}
 use mathlib.Core.Option.{Option, none, some}
 use mathlib.Core.List.{List, [], _∷_}
@@ -11,41 +11,46 @@ use lib.ListN.{getD}
 use Rattle.marking.specs.Marking.{code, Piece}
 use Rattle.marking.specs.Spans as marked
 use Rattle.marking.specs.Reading.{Match, alone, paired, linked, isCode, withTail, pieceAt}
+use Rattle.line.specs.Line.{lineOf}
+use Rattle.line.specs.Promise.{lineIf, Before}
+use Rattle.line.specs.declared.Line.{Line}
+use Rattle.line.proofs.Lines.{counted-on, number-there}
 use Rattle.row.specs.declared.Definition.{Definition}
 use Rattle.span.specs.declared.Span.{Span}
-use Rattle.span.specs.Row.{stored}
+use Rattle.span.specs.Row.{wholeRows, storedOn, stored}
+use Rattle.span.proofs.Put.{stored-line}
 use Rattle.inline.specs.Tails.{Tail, lengthOf}
 use Rattle.inline.specs.ReadingPieces.{piece, pieceFrom}
 use Rattle.inline.specs.Reading.{grammar, tailAt}
 use Rattle.inline.specs.ReadingRows.{rowFor}
 use Rattle.link.specs.Reading.{linkRow}
 use Rattle.step.specs.Reading.{storedAll}
-use Rattle.step.specs.Promise.{spansAt, Steps, closing}
+use Rattle.step.specs.Promise.{Lined, fits, lined, spansAt, Steps, closing}
 use Rattle.step.specs.declared.Walk.{Walk}
 use Rattle.inline.proofs.Pieces.{at-open, at-close}
 
 abbrev codeSpans : Piece → List (marked.Span Tail)
 codeSpans q = marked.codeSpan q ∷ []
 
-module _ (offset : ℕ) (p : List ℕ) (labels : List (List ℕ)) (ds : List Definition) (v : Walk) (t : List ℕ) where
-  -- whatever number of brackets is open afterwards
+module _ (s : List ℕ) (offset : ℕ) (p : List ℕ) (labels : List (List ℕ)) (ds : List Definition) (v : Walk) (t : List ℕ) where
+  -- whatever number of brackets is open afterwards, and whatever line was asked for last
   abbrev Passed : Match Tail → ℕ → ℕ → ℕ → List ℕ → Type 0
-  Passed f at last row u = (depth : ℕ) → Steps offset p labels ds f v t (record { at = at; last = last; row = row; depth = depth }) u
+  Passed f at last row u = (depth : ℕ) (line : Line) → Steps s offset p labels ds f v t (record { at = at; last = last; row = row; depth = depth; line = line }) u
 
   -- ---- a piece in no pair
   pub step-quiet : (q : Piece) → pieceFrom p (v .at) ≡ q → isCode (q .kind) ≡ false → Passed alone (q .end) (v .last) (v .row) t
   unfolding storedAll
-  step-quiet q e k depth =
-      let z : spansAt offset p labels ds (v .at) alone ≡ [] =
+  step-quiet q e k depth line =
+      let z : spansAt s offset p labels ds (v .at) alone ≡ [] =
       ap (λ (x : Piece). cond (isCode (x .kind)) (codeSpans (pieceAt (grammar p labels) (v .at))) []) e
       ∙ ap (λ (b : Bool). cond b (codeSpans (pieceAt (grammar p labels) (v .at))) []) k in
       record { at = ap (λ (x : Piece). x .end) (sym e); last = refl; row = rw z (omega arith); table = rw z refl }
 
   pub step-code : (e : ℕ) → pieceFrom p (v .at) ≡ piece code (v .at) e → {r : Span} {u : List ℕ} → r ≡ rowFor offset p ds (marked.codeSpan (piece code (v .at) e))
-      → u ≡ stored t (v .row) r → Passed alone e (v .last) (v .row + 1) u
+      → u ≡ stored s t (v .row) r → Passed alone e (v .last) (v .row + 1) u
   unfolding storedAll
-  step-code e q er eu depth =
-      let z : spansAt offset p labels ds (v .at) alone ≡ marked.codeSpan (piece code (v .at) e) ∷ [] =
+  step-code e q er eu depth line =
+      let z : spansAt s offset p labels ds (v .at) alone ≡ marked.codeSpan (piece code (v .at) e) ∷ [] =
       ap (λ (x : Piece). cond (isCode (x .kind)) (codeSpans (piece (x .kind) (v .at) (x .end))) []) q in
       record { at = ap (λ (x : Piece). x .end) (sym q); last = refl; row = rw z refl; table = rw (z, ← er) eu }
 
@@ -54,27 +59,27 @@ module _ (offset : ℕ) (p : List ℕ) (labels : List (List ℕ)) (ds : List Def
     tail-here : grammar p labels .tailAt (grammar p labels .endAt o) (v .at) ≡ tailAt p labels (o + 1) (v .at)
     tail-here = ap (λ (x : Piece). tailAt p labels (x .end) (v .at)) (at-open p o ho)
 
-    closing-by : (b : Bool) → ltb o (v .last) ≡ b → (x : Option Tail) → tailAt p labels (o + 1) (v .at) ≡ x → closing offset p labels ds v o ≡ cond b (paired o) (withTail o x)
+    closing-by : (b : Bool) → ltb o (v .last) ≡ b → (x : Option Tail) → tailAt p labels (o + 1) (v .at) ≡ x → closing s offset p labels ds v o ≡ cond b (paired o) (withTail o x)
     closing-by b eb x ex =
         ap (λ (y : Bool). cond y (paired o) (withTail o (grammar p labels .tailAt (grammar p labels .endAt o) (v .at)))) eb
         ∙ ap (λ (y : Option Tail). cond b (paired o) (withTail o y)) (tail-here ∙ ex)
 
     paired-step : (f : Match Tail) → f ≡ paired o → Passed f (v .at + 1) (v .last) (v .row) t
     unfolding storedAll
-    paired-step f e depth =
+    paired-step f e depth line =
         rw e (record { at = ap (λ (x : Piece). x .end) (sym (at-close p (v .at) hc)); last = refl; row = omega arith; table = refl })
 
     -- a link opened after it already
-    pub step-held : o < v .last → Passed (closing offset p labels ds v o) (v .at + 1) (v .last) (v .row) t
+    pub step-held : o < v .last → Passed (closing s offset p labels ds v o) (v .at + 1) (v .last) (v .row) t
     step-held h = paired-step _ (closing-by true (lt-ltb o (v .last) h) _ refl)
 
-    pub step-tailless : v .last ≤ o → none ≡ tailAt p labels (o + 1) (v .at) → Passed (closing offset p labels ds v o) (v .at + 1) (v .last) (v .row) t
+    pub step-tailless : v .last ≤ o → none ≡ tailAt p labels (o + 1) (v .at) → Passed (closing s offset p labels ds v o) (v .at + 1) (v .last) (v .row) t
     step-tailless h e = paired-step _ (closing-by false (le-ltb o (v .last) h) _ (sym e))
 
     linked-step : (f : Match Tail) (x : Tail) → f ≡ linked o x → {n : ℕ} {r : Span} {u : List ℕ} → n ≡ lengthOf x → r ≡ linkRow offset ds o (v .at) x
-        → u ≡ stored t (v .row) r → Passed f (v .at + 1 + n) o (v .row + 1) u
+        → u ≡ stored s t (v .row) r → Passed f (v .at + 1 + n) o (v .row + 1) u
     unfolding storedAll
-    linked-step f x e en er eu depth =
+    linked-step f x e en er eu depth line =
         rw e
         (record {
           at = rw (at-close p (v .at) hc, en);
@@ -84,5 +89,35 @@ module _ (offset : ℕ) (p : List ℕ) (labels : List (List ℕ)) (ds : List Def
         })
 
     pub step-link : v .last ≤ o → (x : Tail) → some x ≡ tailAt p labels (o + 1) (v .at) → {n : ℕ} {r : Span} {u : List ℕ} → n ≡ lengthOf x → r ≡ linkRow offset ds o (v .at) x
-        → u ≡ stored t (v .row) r → Passed (closing offset p labels ds v o) (v .at + 1 + n) o (v .row + 1) u
+        → u ≡ stored s t (v .row) r → Passed (closing s offset p labels ds v o) (v .at + 1 + n) o (v .row + 1) u
     step-link h x e = linked-step _ x (closing-by false (le-ltb o (v .last) h) _ (sym e))
+
+-- ---- lines
+-- the row of a span whose line is known where it is stored
+pub row-stored : (s : List ℕ) (t : List ℕ) (k : ℕ) {r x : Span} → r ≡ x → {line : ℕ} → (k < wholeRows t → line ≡ lineOf s (x .whole .start)) → {u : List ℕ} → u ≡ storedOn line t k r → u ≡ stored s t k r
+row-stored s t k {r} e f q = q ∙ stored-line s t k r (λ h. f h ∙ ap (λ (y : Span). lineOf s (y .whole .start)) (sym e))
+
+pub lined-by : (s : List ℕ) (offset : ℕ) (t : List ℕ) (w : Walk) {l : Line} → l ≡ lineIf (fits t w) s (w .line) (offset + w .at)
+    → record { at = w .at; last = w .last; row = w .row; depth = w .depth; line = l } ≡ lined s offset t w
+lined-by s offset t w e = rw e refl
+
+-- c is the walk v with the line of its place
+module _ (s : List ℕ) (offset : ℕ) (t : List ℕ) (v : Walk) (l : Lined s offset v) {c : Walk} (ec : c ≡ lined s offset t v) where
+  abbrev line-is : c .line ≡ lineIf (fits t v) s (v .line) (offset + v .at)
+  line-is = ap (λ (x : Walk). x .line) ec
+
+  pub still-lined : Before s (c .line) (offset + v .at)
+  still-lined = counted-on (fits t v) (l .before) line-is
+
+  pub line-known : v .row < wholeRows t → c .line .number ≡ lineOf s (offset + v .at)
+  line-known h = number-there (fits t v) (l .before) line-is (lt-ltb (v .row) (wholeRows t) h)
+
+  pub line-small : offset + v .at + 1 < 2 ^ 32 → c .line .number < 2 ^ 32
+  line-small h = omega (arith, still-lined .few)
+
+  pub step-counted : (p : List ℕ) (labels : List (List ℕ)) (ds : List Definition) (e : ℕ) → pieceFrom p (v .at) ≡ piece code (v .at) e → {r : Span} {u : List ℕ}
+      → r ≡ rowFor offset p ds (marked.codeSpan (piece code (v .at) e)) → u ≡ storedOn (c .line .number) t (v .row) r
+      → Steps s offset p labels ds alone v t (record { at = e; last = c .last; row = v .row + 1; depth = c .depth; line = c .line }) u
+  step-counted p labels ds e q {u = u} er eu =
+      subst (λ (n : ℕ). Steps s offset p labels ds alone v t (record { at = e; last = n; row = v .row + 1; depth = c .depth; line = c .line }) u)
+      (sym (ap (λ (x : Walk). x .last) ec)) (step-code s offset p labels ds v t e q er (row-stored s t (v .row) er line-known eu) (c .depth) (c .line))

@@ -2,19 +2,41 @@
 use Prim.Native.Nat.{ℕ, _+_, _<_, _^_}
 use mathlib.Core.Path.{_≡_}
 use mathlib.Core.List.{List, [], _∷_, map}
+use mathlib.Core.Bool.{Bool}
+use lib.Dec.{ltb}
 use lib.ListN.{length, getD}
+use Rattle.line.specs.Line.{lineOf}
+use Rattle.line.specs.Promise.{none, lineIf, Before}
 use Rattle.marking.specs.Spans as marked
 use Rattle.marking.specs.Reading.{Match, alone, foundClosing, pieceAt, placeAfter, lastAfter, newSpans}
 use Rattle.row.specs.declared.Definition.{Definition}
+use Rattle.span.specs.Row.{wholeRows}
 use Rattle.inline.specs.Tails.{Tail}
 use Rattle.inline.specs.Reading.{grammar}
 use Rattle.inline.specs.ReadingRows.{rowFor}
 use Rattle.step.specs.Reading.{storedAll}
 use Rattle.step.specs.declared.Walk.{Walk}
 
--- at a paragraph's start, with no bracket open
-abbrev pub fromRow : ℕ → Walk
-fromRow k = record { at = 0; last = 0; row = k; depth = 0 }
+-- before the first paragraph
+abbrev pub first : Walk
+first = record { at = 0; last = 0; row = 0; depth = 0; line = none }
+
+-- at a paragraph's start, with no bracket open: rows and lines go on from those before it
+abbrev pub afresh : Walk → Walk
+afresh w = record { at = 0; last = 0; row = w .row; depth = 0; line = w .line }
+
+-- in the paragraph at place `offset` of the note s the walk stands at a byte, and its line is that of an earlier place
+pub record Lined (s : List ℕ) (offset : ℕ) (w : Walk) : Type 0 where
+  pub before : Before s (w .line) (offset + w .at)
+  pub inside : offset + w .at < length s
+
+-- a row more can be stored in the span table t
+abbrev pub fits : List ℕ → Walk → Bool
+fits t w = ltb (w .row) (wholeRows t)
+
+-- the walk with the line of its place, if a row more can be stored
+abbrev pub lined : List ℕ → ℕ → List ℕ → Walk → Walk
+lined s offset t w = record { at = w .at; last = w .last; row = w .row; depth = w .depth; line = lineIf (fits t w) s (w .line) (offset + w .at) }
 
 -- a `[` at place o and a `]` at the walk's place
 pub record Pair (p : List ℕ) (w : Walk) (o : ℕ) : Type 0 where
@@ -22,6 +44,12 @@ pub record Pair (p : List ℕ) (w : Walk) (o : ℕ) : Type 0 where
   pub close-at : getD p (w .at) 0 ≡ 93
   pub before : o < w .at
   pub inside : w .at < length p
+
+-- and the 32-bit number `line`, which is the line of the `[` if a row more can be stored
+pub record LinedPair (s : List ℕ) (offset : ℕ) (p t : List ℕ) (w : Walk) (o line : ℕ) : Type 0 where
+  pub pair : Pair p w o
+  pub small : line < 2 ^ 32
+  pub is-line : w .row < wholeRows t → line ≡ lineOf s (offset + o)
 
 pub record BacktickAt (p : List ℕ) (w : Walk) : Type 0 where
   pub inside : w .at < length p
@@ -33,7 +61,7 @@ pub record Bounds (offset : ℕ) (p : List ℕ) (count : ℕ) (w : Walk) : Type 
   pub definitions : count < 2 ^ 32
   pub rows : w .row + 1 < 2 ^ 64
 
-module _ (offset : ℕ) (p : List ℕ) (labels : List (List ℕ)) (ds : List Definition) where
+module _ (s : List ℕ) (offset : ℕ) (p : List ℕ) (labels : List (List ℕ)) (ds : List Definition) where
   -- the spans that end with the piece at place `at`, by what it comes to
   abbrev pub spansAt : ℕ → Match Tail → List (marked.Span Tail)
   spansAt at f = newSpans (pieceAt (grammar p labels)) (pieceAt (grammar p labels) at) f
@@ -43,7 +71,7 @@ module _ (offset : ℕ) (p : List ℕ) (labels : List (List ℕ)) (ds : List Def
     pub at : w .at ≡ placeAfter (grammar p labels) (pieceAt (grammar p labels) (v .at)) f
     pub last : w .last ≡ lastAfter (v .last) f
     pub row : w .row ≡ v .row + length (spansAt (v .at) f)
-    pub table : u ≡ storedAll t (v .row) (map (rowFor offset p ds) (spansAt (v .at) f))
+    pub table : u ≡ storedAll s t (v .row) (map (rowFor offset p ds) (spansAt (v .at) f))
 
   -- what the `]` at v's place comes to with the `[` at place o
   abbrev pub closing : Walk → ℕ → Match Tail
@@ -51,8 +79,8 @@ module _ (offset : ℕ) (p : List ℕ) (labels : List (List ℕ)) (ds : List Def
 
   -- past a `]` that closes a pair, where v counts its `[` no longer as open
   abbrev pub Closes : ℕ → Walk → List ℕ → Walk → List ℕ → Type 0
-  Closes o v t w u = Steps (closing v o) v t w u × (w .depth ≡ v .depth)
+  Closes o v t w u = Steps (closing v o) v t w u × (w .depth ≡ v .depth) × (w .line ≡ v .line)
 
 -- past a piece that is in no pair, whatever the definitions are
-abbrev pub Passes : ℕ → List ℕ → Walk → List ℕ → Walk → List ℕ → Type 0
-Passes offset p v t w u = ((labels : List (List ℕ)) (ds : List Definition) → Steps offset p labels ds alone v t w u) × (w .depth ≡ v .depth)
+abbrev pub Passes : List ℕ → ℕ → List ℕ → Walk → List ℕ → Walk → List ℕ → Type 0
+Passes s offset p v t w u = ((labels : List (List ℕ)) (ds : List Definition) → Steps s offset p labels ds alone v t w u) × (w .depth ≡ v .depth) × Before s (w .line) (offset + v .at)

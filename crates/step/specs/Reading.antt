@@ -1,4 +1,4 @@
--- The rows of a paragraph's spans, and a table in which they are stored as far as they fit.
+-- A paragraph's spans, and a table in which their rows are stored as far as they fit.
 use Prim.Native.Nat.{ℕ, _+_}
 use mathlib.Core.List.{List, [], _∷_, map}
 use Rattle.marking.specs.ReadingSpans.{spans}
@@ -8,11 +8,11 @@ use Rattle.span.specs.Row.{stored}
 use Rattle.inline.specs.Reading.{grammar}
 use Rattle.inline.specs.ReadingRows.{rowFor}
 
--- the rows of all spans that are read, in order
+-- all spans that are read, in order
 abbrev pub rowsFor : ℕ → List ℕ → List (List ℕ) → List Definition → List Span
 rowsFor offset p labels ds = map (rowFor offset p ds) (spans (grammar p labels))
 
--- the table t with these rows from row k on, as far as they fit
-unfoldable pub storedAll : List ℕ → ℕ → List Span → List ℕ
-storedAll t k [] = t
-storedAll t k (x ∷ xs) = storedAll (stored t k x) (k + 1) xs
+-- the table t with the rows of these spans of the note s from row k on, as far as they fit
+unfoldable pub storedAll : List ℕ → List ℕ → ℕ → List Span → List ℕ
+storedAll s t k [] = t
+storedAll s t k (x ∷ xs) = storedAll s (stored s t k x) (k + 1) xs

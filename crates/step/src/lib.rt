@@ -6,36 +6,66 @@ ghost use Rattle.row.specs.Reading.{Fit, definitionsFrom};
 ghost use Rattle.parens.specs.Unclosed.{Prepared};
 ghost use Rattle.ticks.specs.LastRuns.{Ready};
 ghost use Rattle.tail.specs.Ending.{labelsIn};
-ghost use Rattle.step.specs.Promise.{fromRow, Pair, BacktickAt, Bounds, Closes, Passes};
+ghost use Rattle.step.specs.Promise.{first, afresh, lined, LinedPair, BacktickAt, Bounds, Lined, Closes, Passes};
+use line::Line;
 use row::Range;
 use scan::Found;
 use span::Span;
 use tail::Ending;
 
-// Where the reading stands: its place, the place of the last link's `[` (0 where there is none yet), the next span's row, and how
-// many brackets are open.
+// Where the reading stands: its place, the place of the last link's `[` (0 where there is none yet), the next span's row, how many
+// brackets are open, and the last line that was asked for.
 pub struct Walk {
     pub at: usize,
     pub last: usize,
     pub row: usize,
     pub depth: usize,
+    pub line: Line,
 }
 
 impl Walk {
-    // At a paragraph's start, with no bracket open.
-    pub fn from_row(row: usize) -> Walk
-        ensures { λ r. ⌜ r ≡ fromRow row ⌝ }
+    // Before the first paragraph.
+    pub fn first() -> Walk
+        ensures { λ r. ⌜ r ≡ first ⌝ }
     {
         Walk {
             at: 0,
             last: 0,
-            row,
+            row: 0,
             depth: 0,
+            line: Line::none(),
         }
     }
 }
 
-// Past the `]` at the walk's place, whose pair opens at `opening`.
+// At a paragraph's start, with no bracket open: rows and lines go on from those before it.
+pub fn afresh(from: Walk) -> Walk
+    ensures { λ r. ⌜ r ≡ afresh from ⌝ }
+{
+    let mut w = from;
+    w.at = 0;
+    w.last = 0;
+    w.depth = 0;
+    w
+}
+
+// The walk with the line of its place, if a row more can be stored: else no line is asked for. Often it is the line that was asked for
+// last.
+pub fn count_lines(note: &[u8], start: usize, spans: &[u32], w: Walk) -> Walk
+    requires { ⌜ Lined (now note) start w ⌝ }
+    ensures { λ r. ⌜ r ≡ lined (now (note .entry)) start (now (spans .entry)) w ⌝ }
+{
+    let place = start + w.at;
+    if (span::whole_rows(spans) <= w.row) | (place < w.line.end) {
+        return w;
+    }
+    let line = w.line;
+    let mut v = w;
+    v.line = line::line_at(note, line, place);
+    v
+}
+
+// Past the `]` at the walk's place, whose pair opens at `opening`, on this line if a row more can be stored.
 pub fn close_pair(
     p: &[u8],
     start: usize,
@@ -45,13 +75,14 @@ pub fn close_pair(
     spans: &mut [u32],
     w: Walk,
     opening: usize,
+    line: usize,
     marks: &mut [u8],
 ) -> Walk
-    requires { ⌜ Pair (now p) w opening ⌝ }
+    requires { ⌜ LinedPair (now note) start (now p) (now spans) w opening line ⌝ }
     requires { ⌜ Bounds start (now p) count w ⌝ }
     requires { ⌜ Fit (now note) (now definitions) count ⌝ }
     requires { ⌜ Prepared (now p) (w .at) (now marks) ⌝ }
-    ensures { λ r. ⌜ Closes start (now (p .entry)) (labelsIn (now (note .entry)) (now (definitions .entry)) count) (definitionsFrom (now (definitions .entry)) 0 count) opening w (now (spans .entry)) r (now (spans .exit)) ⌝ }
+    ensures { λ r. ⌜ Closes (now (note .entry)) start (now (p .entry)) (labelsIn (now (note .entry)) (now (definitions .entry)) count) (definitionsFrom (now (definitions .entry)) 0 count) opening w (now (spans .entry)) r (now (spans .exit)) ⌝ }
     ensures { λ r. ⌜ Prepared (now (p .entry)) (r .at) (now (marks .exit)) ⌝ }
 {
     let at = w.at;
@@ -68,7 +99,7 @@ pub fn close_pair(
         return v;
     };
     let row = link::link_row(start, opening, at, t, definitions, count);
-    span::store(spans, w.row, row);
+    span::store(spans, w.row, row, line);
     v.at = next + t.length;
     v.last = opening;
     v.row = w.row + 1;
@@ -79,27 +110,30 @@ pub fn close_pair(
 fn pass_backticks(
     p: &[u8],
     start: usize,
+    note: &[u8],
     spans: &mut [u32],
     w: Walk,
     runs: &mut [u32; ticks::LENGTHS],
 ) -> Walk
     requires { ⌜ BacktickAt (now p) w ⌝ }
     requires { ⌜ Bounds start (now p) 0 w ⌝ }
+    requires { ⌜ Lined (now note) start w ⌝ }
     requires { ⌜ Ready (now p) (now runs) ⌝ }
-    ensures { λ r. ⌜ Passes start (now (p .entry)) w (now (spans .entry)) r (now (spans .exit)) ⌝ }
+    ensures { λ r. ⌜ Passes (now (note .entry)) start (now (p .entry)) w (now (spans .entry)) r (now (spans .exit)) ⌝ }
     ensures { λ r. ⌜ Ready (now (p .entry)) (now (runs .exit)) ⌝ }
 {
     let at = w.at;
-    let mut v = w;
     let first = ticks::backticks_end(p, at);
     let n = first - at;
     let Found::At(e) = ticks::closing_run_lazy(p, first, n, runs) else {
+        let mut v = w;
         v.at = first;
         return v;
     };
     let whole = Range::new(start + at, start + e);
     let text = Range::new(start + first, start + (e - n));
-    span::store(spans, w.row, Span::code_span(whole, text));
+    let mut v = count_lines(note, start, spans, w);
+    span::store(spans, w.row, Span::code_span(whole, text), v.line.number);
     v.at = e;
     v.row = w.row + 1;
     v
@@ -109,19 +143,21 @@ fn pass_backticks(
 pub fn pass_piece(
     p: &[u8],
     start: usize,
+    note: &[u8],
     spans: &mut [u32],
     w: Walk,
     runs: &mut [u32; ticks::LENGTHS],
 ) -> Walk
     requires { ⌜ w .at < length (now p) ⌝ }
     requires { ⌜ Bounds start (now p) 0 w ⌝ }
+    requires { ⌜ Lined (now note) start w ⌝ }
     requires { ⌜ Ready (now p) (now runs) ⌝ }
-    ensures { λ r. ⌜ Passes start (now (p .entry)) w (now (spans .entry)) r (now (spans .exit)) ⌝ }
+    ensures { λ r. ⌜ Passes (now (note .entry)) start (now (p .entry)) w (now (spans .entry)) r (now (spans .exit)) ⌝ }
     ensures { λ r. ⌜ Ready (now (p .entry)) (now (runs .exit)) ⌝ }
 {
     let at = w.at;
     if p[at] == 96 {
-        return pass_backticks(p, start, spans, w, runs);
+        return pass_backticks(p, start, note, spans, w, runs);
     }
     let mut v = w;
     if scan::escape_at(p, at) {

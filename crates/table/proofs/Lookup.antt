@@ -23,19 +23,19 @@ label-within : {note : List ℕ} {d : Definition} → Lies note d → Within not
 label-within l = let p = l .places in record { ordered = p .label; inside = omega (arith, p .apart, p .destination, p .ends, p .inside) }
 
 -- t is the table lent; after filling it is t′, and k definitions were counted
-module _ (note t : List ℕ) (enough : length (definitions note) ≤ wholeRows t) {t′ : List ℕ} (stored : t′ ≡ filled (definitions note) t) {k : ℕ} (counted : k ≡ length (definitions note)) where
+module _ (note t : List ℕ) (enough : length (definitions note) ≤ wholeRows t) {t′ : List ℕ} (stored : t′ ≡ filled note (definitions note) t) {k : ℕ} (counted : k ≡ length (definitions note)) where
   pub table-fit : Fit note t′ k
   table-fit =
       let o = definition absent absent absent in
-      rw (stored, counted) (filled-fit (definitions note) t enough note o (λ i h. label-within (definitions-lie note _ (at-index (definitions note) i o h))))
+      rw (stored, counted) (filled-fit note (definitions note) t enough o (λ i h. label-within (definitions-lie note _ (at-index (definitions note) i o h))))
 
   module _ (label : List ℕ) where
     pub table-row : rowOf note t′ label k ≡ firstMatch (labelsOf note (definitions note)) label
-    table-row = rw (stored, counted) (row-of-filled (definitions note) t enough note label)
+    table-row = rw (stored, counted) (row-of-filled note (definitions note) t enough label)
 
     -- row i is found exactly where definition i is the first of the note with an equal label
     pub table-first : (i : ℕ) → (rowOf note t′ label k ≡ At i) ↔ FirstEqual (labelsOf note (definitions note)) label i
-    table-first i = rw (stored, counted) (row-of-first (definitions note) t enough note label i)
+    table-first i = rw (stored, counted) (row-of-first note (definitions note) t enough label i)
 
     pub table-none : (rowOf note t′ label k ≡ Nothing) ↔ NoneEqual (labelsOf note (definitions note)) label
-    table-none = rw (stored, counted) (row-of-none (definitions note) t enough note label)
+    table-none = rw (stored, counted) (row-of-none note (definitions note) t enough label)

@@ -17,7 +17,7 @@ use Rattle.row.specs.declared.Definition.{Definition}
 use Rattle.definition.specs.declared.Entry.{Entry}
 use Rattle.definition.specs.declared.Entry.the-variants.{Defined, Nothing}
 use Rattle.definition.specs.Reading.{definitionAt, Taking, definitionsFrom, paragraphEnd, paragraphFrom, upToEnd, definitionsOf, paragraphOf, definitionsIn, paragraphsIn}
-use Rattle.definition.proofs.Places.{definition-onward}
+use Rattle.definition.proofs.Places.{definition-places, definition-onward}
 use Rattle.definition.proofs.Takings.{turn-over, turn-taken, taking-takes}
 use Rattle.walk.specs.declared.Block.{Block}
 use Rattle.walk.specs.declared.Block.the-variants as block
@@ -114,11 +114,12 @@ module _ (s : List ℕ) (c : Cursor) (at end : ℕ) (inv : definitionsAfter s (c
   unfolding definitionsAfter
   definition-here {d} {n} low h e =
       let q = turn-taken (take end s) at d n (sym is-entry ∙ e) in
-      let (on, fits) = definition-onward (take end s) at d n (sym is-entry ∙ e) in
+      let p = definition-places (take end s) at d n (sym is-entry ∙ e) in
       record {
         first = sym inv ∙ ap (λ (t : Taking). t .definitions ++ definitionsIn s (blocksFrom s end)) q;
-        within = record { ordered = omega (arith, length-take-le end s h); inside = h };
-        onward = omega arith;
+        within = record { ordered = omega (arith, length-take-le end s h, p .inside); inside = h };
+        starts = omega (arith, p .low);
+        onward = omega (arith, p .label, p .apart, p .destination, p .ends);
       }
 
   module _ (none : x ≡ Nothing) where

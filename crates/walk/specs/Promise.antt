@@ -29,11 +29,12 @@ pub record Standing (s : List ℕ) (c : Cursor) : Type 0 where
   pub ordered : c .at ≤ c .end
   pub inside : c .end ≤ length s
 
--- d is the first definition that c has before it, and c′ stands after d
+-- d is the first definition that c has before it, and c′ stands after d; its label lies between the two
 pub record FirstDefinition (s : List ℕ) (c : Cursor) (d : Definition) (c′ : Cursor) : Type 0 where
   pub first : definitionsAfter s c ≡ d ∷ definitionsAfter s c′
   pub within : Standing s c′
-  pub onward : c .at < c′ .at
+  pub starts : c .at < d .label .start
+  pub onward : d .label .start < c′ .at
 
 abbrev pub IsNext : List ℕ → Cursor → Next → Type 0
 IsNext s c (next.Definition d c′) = FirstDefinition s c d c′

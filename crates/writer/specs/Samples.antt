@@ -17,13 +17,13 @@ use Rattle.writer.specs.Pass.{byRow}
 abbrev note : List ℕ
 note = ascii "[max]: /q2/max \"June\"\n\nUse [max].\n"
 
--- "Span row 5 27 32 28 31 1 7 14 16 20."
+-- "Span row 5 27 32 28 31 1 7 14 16 20.", and it gains 3
 abbrev link : List ℕ
-link = 5 ∷ 27 ∷ 32 ∷ 28 ∷ 31 ∷ 1 ∷ 7 ∷ 14 ∷ 16 ∷ 20 ∷ []
+link = 5 ∷ 27 ∷ 32 ∷ 28 ∷ 31 ∷ 1 ∷ 7 ∷ 14 ∷ 16 ∷ 20 ∷ 3 ∷ []
 
 -- a code span from 23 to 26, whose text is one byte
 abbrev code : List ℕ
-code = 1 ∷ 23 ∷ 26 ∷ 24 ∷ 25 ∷ 0 ∷ 0 ∷ 0 ∷ 0 ∷ 0 ∷ []
+code = 1 ∷ 23 ∷ 26 ∷ 24 ∷ 25 ∷ 0 ∷ 0 ∷ 0 ∷ 0 ∷ 0 ∷ 3 ∷ []
 
 abbrev table : List ℕ
 table = code ++ link

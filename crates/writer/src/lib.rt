@@ -20,7 +20,7 @@ struct Pass {
 
 // What a row calls for where the pass stands: a code span, the opening tag of a link, or its closing tag in place of its tail.
 fn write_row(note: &[u8], end: usize, row: Span, p: Pass, page: &mut [u8]) -> Pass
-    requires { ⌜ Called (now note) end (numbers row) (p .at) ⌝ }
+    requires { ⌜ Called (now note) end (numbers (now note) row) (p .at) ⌝ }
     requires { ⌜ Room (now note) end p ⌝ }
     ensures { λ r. ⌜ Passes (now (note .entry)) end p (now (page .entry)) r (now (page .exit)) ⌝ }
 {

@@ -81,7 +81,7 @@ const ILL_FORMED: [&[u8]; 39] = [
 fn well_formed() -> Vec<Case> {
     let case = |bytes: &[u8]| {
         let note = [b"[a](b", bytes, b")"].concat();
-        Case::of(format!("good bytes {}", bytes.escape_ascii()), note).tables(6, 10)
+        Case::of(format!("good bytes {}", bytes.escape_ascii()), note).rows(1, 1)
     };
     WELL_FORMED.map(case).into()
 }
@@ -93,13 +93,13 @@ fn ill_formed() -> Vec<Case> {
         let last = [b"[a]: b\n\n\xc3\xa9 ", bytes].concat();
         let first = [bytes, b" [a](b)"].concat();
         cases.extend([
-            Case::of(format!("{name} and more"), first).tables(6, 10),
-            Case::of(name, last).tables(6, 10),
+            Case::of(format!("{name} and more"), first).rows(1, 1),
+            Case::of(name, last).rows(1, 1),
         ]);
     }
     let after_all = [b"[a]: b\n\n".as_slice(), &[b'['; 1_025], b"\r"].concat();
     cases.extend([
-        Case::of("a bad byte after all else, no rows lent", after_all).tables(0, 0),
+        Case::of("a bad byte after all else, no rows lent", after_all).rows(0, 0),
         Case::of("a bad byte, then ill-formed bytes", b"ab\rc\xff"),
         Case::of("ill-formed bytes, then a bad byte", b"ab\xffc\0"),
     ]);

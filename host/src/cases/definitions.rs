@@ -3,10 +3,15 @@
 use super::Case;
 
 pub fn cases() -> Vec<Case> {
-    [indented(), named(DEFINITIONS), named(LABELS), gaps()]
-        .into_iter()
-        .flatten()
-        .collect()
+    [
+        indented(),
+        Case::of_each(DEFINITIONS),
+        Case::of_each(LABELS),
+        gaps(),
+    ]
+    .into_iter()
+    .flatten()
+    .collect()
 }
 
 const DEFINITIONS: &[(&str, &str)] = &[
@@ -107,13 +112,6 @@ const LABELS: &[(&str, &str)] = &[
         "[a]: /1 '1'\n[b]: /2\n[A]: /3\n\n[a] [B] [x][A]",
     ),
 ];
-
-/// A case for each name and note.
-fn named(list: &[(&str, &str)]) -> Vec<Case> {
-    list.iter()
-        .map(|(name, note)| Case::of(*name, note))
-        .collect()
-}
 
 fn indented() -> Vec<Case> {
     let mut cases = Vec::new();

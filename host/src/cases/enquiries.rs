@@ -131,10 +131,10 @@ fn blocks() -> Vec<Case> {
         .asking("a"),
         Case::of("enquiry, an empty note", "").asking("a"),
         Case::of("enquiry, at the end of 32,768 bytes", last)
-            .tables(6, 0)
+            .rows(1, 0)
             .asking("B"),
         Case::of("enquiry, the last of 2,000 definitions", many)
-            .tables(6, 0)
+            .rows(1, 0)
             .page(0)
             .asking("L1999"),
     ]
@@ -146,7 +146,7 @@ fn refusals() -> Vec<Case> {
     let long = "\r".repeat(LONGEST_NOTE + 1);
     vec![
         Case::of("enquiry, a note too deep to be marked", deep)
-            .tables(6, 0)
+            .rows(1, 0)
             .page(0)
             .asking("a"),
         Case::of(
@@ -156,7 +156,7 @@ fn refusals() -> Vec<Case> {
         .asking("\0"),
         Case::of("enquiry, a bad byte in the note and no label", "[a]: /u \r").asking("]"),
         Case::of("enquiry, a note too long and no label", long)
-            .tables(0, 0)
+            .rows(0, 0)
             .page(0)
             .asking(""),
     ]

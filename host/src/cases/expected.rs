@@ -4,7 +4,7 @@
 use super::Case;
 use crate::second::{Reader, DEFINITION_ROW_WIDTH, SPAN_ROW_WIDTH};
 
-/// What each lent number holds before the call: no place, kind or definition number of a note.
+/// What each lent number holds before the call: no place, kind, definition number or line of a note.
 const GUARD: u32 = 99_999;
 /// What each byte of the page holds before the call: no byte of a note or a page.
 const PAGE_GUARD: u8 = 13;

@@ -1,7 +1,7 @@
 //! Limits: the length of a note, of a label, and brackets open at once.
 
-use super::Case;
-use crate::second::LONGEST_NOTE;
+use super::{Case, DEFINITION_ROOM};
+use crate::second::{DEFINITION_ROW_WIDTH, LONGEST_NOTE, SPAN_ROW_WIDTH};
 
 pub fn cases() -> Vec<Case> {
     [
@@ -18,18 +18,19 @@ pub fn cases() -> Vec<Case> {
 
 fn short_notes() -> Vec<Case> {
     vec![
-        Case::of("empty note, nothing lent", "").tables(0, 0),
-        Case::of("empty note, rows lent", "").tables(12, 20),
-        Case::of("no rows, nothing lent", "plain text\n").tables(0, 0),
-        Case::of("no rows, parts of a row lent", "plain text\n").tables(5, 9),
-        Case::of("a line end alone", "\n").tables(6, 10),
-        Case::of("blank lines alone", " \n\t\n \t \n\n").tables(6, 10),
-        Case::of("a definition alone", "[a]: b").tables(6, 0),
+        Case::of("empty note, nothing lent", "").rows(0, 0),
+        Case::of("empty note, rows lent", "").rows(2, 2),
+        Case::of("no rows, nothing lent", "plain text\n").rows(0, 0),
+        Case::of("no rows, parts of a row lent", "plain text\n")
+            .tables(DEFINITION_ROW_WIDTH - 1, SPAN_ROW_WIDTH - 1),
+        Case::of("a line end alone", "\n").rows(1, 1),
+        Case::of("blank lines alone", " \n\t\n \t \n\n").rows(1, 1),
+        Case::of("a definition alone", "[a]: b").rows(1, 0),
         Case::of(
             "definitions alone, in two blocks",
             "[a]: b\n[c]: d\n\n[e]: f\n",
         )
-        .tables(18, 0),
+        .rows(3, 0),
     ]
 }
 
@@ -41,19 +42,20 @@ fn long_notes() -> Vec<Case> {
     let bad_first = [b"\0", full.as_bytes()].concat();
     // In characters this one would be within the limit.
     let wide = "é".repeat(LONGEST_NOTE / 2) + "a";
+    let row_and_part = |case: Case| case.tables(DEFINITION_ROW_WIDTH + 1, SPAN_ROW_WIDTH + 1);
     vec![
-        Case::of("32,768 bytes", &full).tables(7, 11),
-        Case::of("32,768 bytes, a link at the end", link_last).tables(0, 10),
-        Case::of("32,768 bytes, a definition at the end", definition_last).tables(6, 0),
-        Case::of("32,769 bytes", full.clone() + "a").tables(7, 11),
-        Case::of("32,769 bytes, a bad byte first", bad_first).tables(7, 11),
-        Case::of("32,769 bytes of two to a character", wide).tables(7, 11),
-        Case::of("40,000 bytes", "a".repeat(40_000)).tables(0, 0),
+        row_and_part(Case::of("32,768 bytes", &full)),
+        Case::of("32,768 bytes, a link at the end", link_last).rows(0, 1),
+        Case::of("32,768 bytes, a definition at the end", definition_last).rows(1, 0),
+        row_and_part(Case::of("32,769 bytes", full.clone() + "a")),
+        row_and_part(Case::of("32,769 bytes, a bad byte first", bad_first)),
+        row_and_part(Case::of("32,769 bytes of two to a character", wide)),
+        Case::of("40,000 bytes", "a".repeat(40_000)).rows(0, 0),
         Case::of(
             "32,768 bytes of definitions: 5,461 rows needed",
             definitions,
         )
-        .tables(1_200, 10),
+        .tables(DEFINITION_ROOM, SPAN_ROW_WIDTH),
     ]
 }
 
@@ -122,7 +124,7 @@ fn brackets() -> Vec<Case> {
             "]".repeat(9) + &open(1_025),
         ),
     ]
-    .map(|(name, note)| Case::of(name, note).tables(0, 20))
+    .map(|(name, note)| Case::of(name, note).rows(0, 2))
     .into()
 }
 
@@ -161,11 +163,11 @@ fn closed_brackets() -> Vec<Case> {
         ),
         ("1,100 pairs, one after the other", "[]".repeat(1_100)),
     ]
-    .map(|(name, note)| Case::of(name, note).tables(0, 20))
+    .map(|(name, note)| Case::of(name, note).rows(0, 2))
     .into();
     cases.push(
         Case::of("70 links", "[a](b)".repeat(70))
-            .tables(0, 700)
+            .rows(0, 70)
             .page(2_000),
     );
     cases

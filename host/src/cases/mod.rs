@@ -11,12 +11,18 @@ mod expected;
 pub mod labels;
 mod lending;
 mod limits;
+mod lines;
 mod links;
 mod named;
 
 pub use expected::{comparison, enquiry, expected, tables_and_page};
 
 use crate::second::{DEFINITION_ROW_WIDTH, SPAN_ROW_WIDTH};
+
+/// The most that the program has room to lend: numbers of each table, bytes of the page.
+pub const DEFINITION_ROOM: usize = 1_200;
+pub const SPAN_ROOM: usize = 3_000;
+pub const PAGE_ROOM: usize = 40_960;
 
 /// One case: what it is, what is lent, the note, and the label that is asked for. The note and the label are
 /// compared as two labels, too.
@@ -45,6 +51,17 @@ impl Case {
             label: first_bracketed(&note).to_vec(),
             note,
         }
+    }
+
+    /// A case for each name and note.
+    fn of_each(list: &[(&str, &str)]) -> Vec<Case> {
+        let case = |(name, note): &(&str, &str)| Case::of(*name, note);
+        list.iter().map(case).collect()
+    }
+
+    /// The case with so many whole rows lent to each table.
+    fn rows(self, definitions: usize, spans: usize) -> Case {
+        self.tables(definitions * DEFINITION_ROW_WIDTH, spans * SPAN_ROW_WIDTH)
     }
 
     /// The case with so many numbers lent to each table.
@@ -99,6 +116,7 @@ pub fn all() -> Vec<Case> {
         limits::cases(),
         definitions::cases(),
         links::cases(),
+        lines::cases(),
         characters::cases(),
         lending::cases(),
         enquiries::cases(),

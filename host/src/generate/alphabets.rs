@@ -121,6 +121,15 @@ pub const ALPHABETS: &[Alphabet] = &[
         most: 16,
     },
     Alphabet {
+        name: "lines",
+        pieces: &[
+            b"\n", b"\n", b"\n", b"\n\n", b" \n", b"\t", b"[", b"[", b"]", b"](c)", b"](\n)",
+            b"[a]", b"[a\n]", b"[\nb]", b"[]", b"`", b"`", b"``", b"d", b"\n[e\n", b"\n[e\n",
+            b"]:\nf\n", b"]:\nf\n", b"'g\n'", b"\\",
+        ],
+        most: 24,
+    },
+    Alphabet {
         name: "page",
         pieces: &[
             b"&",

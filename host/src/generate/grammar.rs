@@ -46,7 +46,7 @@ const TITLES: &[&str] = &[
 const SPACES: &[&str] = &[" ", " ", " ", "\n", " \n ", "\t", "", "\n\n"];
 const BLANK_LINES: &[&str] = &["\n", "\n", " \n", "\t\n", "\n\n", " \t \n\n"];
 const WORDS: &[&str] = &[
-    "a", "the pump", "é", "😀", "b\n", "x  y", "&", "<i>", "\"", "*e*",
+    "a", "the pump", "é", "😀", "b\n", "x  y", "&", "<i>", "\"", "*e*", "\n", "\nc ", "d\ne\n",
 ];
 const ESCAPES: &[&str] = &[
     "\\[", "\\]", "\\`", "\\\\", "\\!", "\\a", "\\&", "\\", "\\<",

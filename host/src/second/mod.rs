@@ -1,10 +1,11 @@
 //! The second reader.
 //!
-//! It is written from document 01 alone and by the slowest honest method: the note becomes owned
-//! strings and lists of characters, the grammar is read by recursive descent, brackets are matched
-//! by counting the pieces between them, labels are compared by building their compared forms, and
+//! It is written from document 01, and the requests of document 02 that are in force, by the slowest
+//! honest method: the note becomes owned strings and lists of characters, the grammar is read by
+//! recursive descent, brackets are matched by counting the pieces between them, labels are compared
+//! by building their compared forms, each row's line is found among the places of the note's LFs, and
 //! the page is built as a string. Nothing is shared with the proved reader. Quoted sentences are
-//! document 01's.
+//! document 01's where document 02 is not named.
 //!
 //! The rooms: `text` (good characters, parts, the descent), `labels`, `targets` (destinations and
 //! titles), `definitions`, `marking` and `tails`, `rows`, `page`, `answers`. A [`Reader`] can be told
@@ -32,6 +33,7 @@ pub use wrong::{Reader, Wrong};
 use answers::{Counts, Left, Lent, Refusal};
 use definitions::Outline;
 use marking::{mark, Marking};
+use rows::Lines;
 use tails::Tails;
 
 /// "The reader takes a note, a definition table and a span table." The tables are told by how many
@@ -97,19 +99,20 @@ impl Reader {
         let note = self.forgiven(note);
         let note = self.checked_note(&note)?;
         let outline = self.outline(note);
+        let lines = Lines::of(note);
         if self.misreads(Wrong::DeepBeforeDefinitions) {
             self.check_depth(&mark_each(note, &outline))?;
         }
-        let definitions = self.write_definitions(&outline, lent, left)?;
+        let definitions = self.write_definitions(&lines, &outline, lent, left)?;
         let markings = mark_each(note, &outline);
         if self.misreads(Wrong::SpansBeforeDeep) {
-            self.write_spans(&markings, lent, &mut Left::default())?;
+            self.write_spans(&lines, &markings, lent, &mut Left::default())?;
         }
         self.check_depth(&markings)?;
         if self.misreads(Wrong::PageBeforeSpans) {
             self.write_page(note, &markings, lent, &mut Left::default())?;
         }
-        let spans = self.write_spans(&markings, lent, left)?;
+        let spans = self.write_spans(&lines, &markings, lent, left)?;
         let page = self.write_page(note, &markings, lent, left)?;
         Ok(Counts {
             definitions,
@@ -121,12 +124,12 @@ impl Reader {
     /// Refusal 3, or the rows of the definition table.
     fn write_definitions(
         self,
+        lines: &Lines,
         outline: &Outline,
         lent: Lent,
         left: &mut Left,
     ) -> Result<usize, Refusal> {
-        let definitions = outline.definitions.iter();
-        let rows = definitions.map(|each| each.row(self)).collect();
+        let rows = outline.definition_rows(lines, self);
         let lent = self.rows_lent(lent.definition_numbers, DEFINITION_ROW_WIDTH);
         let table = &mut left.definition_rows;
         self.hand_over(rows, lent, table, number::FEW_DEFINITION_ROWS)
@@ -155,13 +158,15 @@ impl Reader {
     /// Refusal 5, or the rows of the span table.
     fn write_spans(
         self,
+        lines: &Lines,
         markings: &[Marking],
         lent: Lent,
         left: &mut Left,
     ) -> Result<usize, Refusal> {
-        let rows = markings.iter().flat_map(Marking::span_rows).collect();
+        let rows = markings.iter().flat_map(|each| each.span_rows(lines));
         let lent = self.rows_lent(lent.span_numbers, SPAN_ROW_WIDTH);
-        self.hand_over(rows, lent, &mut left.span_rows, number::FEW_SPAN_ROWS)
+        let table = &mut left.span_rows;
+        self.hand_over(rows.collect(), lent, table, number::FEW_SPAN_ROWS)
     }
 
     /// Refusal 6, or the page, where one is asked for. "After 6 both tables hold their rows and the

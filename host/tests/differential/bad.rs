@@ -1,6 +1,7 @@
 //! Bad input of every kind.
 
 use crate::compare::{self, Lending};
+use host::second::{DEFINITION_ROW_WIDTH, SPAN_ROW_WIDTH};
 
 /// Lendings for notes that are refused whatever is lent: nothing, parts of a row, rows.
 const LENDINGS: [Lending; 3] = [
@@ -10,13 +11,13 @@ const LENDINGS: [Lending; 3] = [
         page_bytes: 0,
     },
     Lending {
-        definition_numbers: 5,
-        span_numbers: 9,
+        definition_numbers: DEFINITION_ROW_WIDTH - 1,
+        span_numbers: SPAN_ROW_WIDTH - 1,
         page_bytes: 1,
     },
     Lending {
-        definition_numbers: 20,
-        span_numbers: 33,
+        definition_numbers: 3 * DEFINITION_ROW_WIDTH + 2,
+        span_numbers: 3 * SPAN_ROW_WIDTH + 3,
         page_bytes: 200,
     },
 ];

@@ -14,6 +14,7 @@ mod bad;
 mod compare;
 mod labels;
 mod lent;
+mod lines;
 mod named;
 mod random;
 mod raw;

@@ -64,7 +64,7 @@ fn lendings_one_by_one(exactly: Lending) -> Vec<Lending> {
 }
 
 /// Through the reader and the page writer with each lending; returns what came up, by number.
-fn compare_with(note: &[u8], lendings: &[Lending]) -> [usize; 7] {
+pub fn compare_with(note: &[u8], lendings: &[Lending]) -> [usize; 7] {
     let mut came_up = [0; 7];
     for lending in lendings {
         came_up[must(note, compare::render(note, *lending)) as usize] += 1;
@@ -95,7 +95,7 @@ fn compare_enquiries(note: &[u8], need: &Need) {
 }
 
 /// A short note at every size near the need.
-fn compare_at_every_size(note: &[u8]) -> [usize; 7] {
+pub fn compare_at_every_size(note: &[u8]) -> [usize; 7] {
     let need = Need::of(note);
     compare_enquiries(note, &need);
     compare_with(note, &lendings(need.exactly()))
@@ -146,8 +146,8 @@ pub fn compare_long(note: &[u8]) -> Need {
     let need = Need::of(note);
     let exactly = need.exactly();
     let more = Lending {
-        definition_numbers: exactly.definition_numbers + 5,
-        span_numbers: exactly.span_numbers + 9,
+        definition_numbers: exactly.definition_numbers + DEFINITION_ROW_WIDTH - 1,
+        span_numbers: exactly.span_numbers + SPAN_ROW_WIDTH - 1,
         page_bytes: exactly.page_bytes + 1,
     };
     must(note, compare::read(note, more));
@@ -171,8 +171,10 @@ fn longest_notes() {
     let pieces = [
         "a",
         "`a` ",
+        "`\n`\n",
         "[a][b]",
         "[a]: b\n",
+        "[a\nb]:\nc\n\n",
         "\\\n",
         "&\"",
         "\n\na",

@@ -88,7 +88,7 @@ fn notes_from_the_grammar() {
 }
 
 /// Every note of up to `most` bytes of the marks, behind `start`.
-fn every_note(start: &[u8], marks: &[u8], most: u32) {
+pub fn every_note(start: &[u8], marks: &[u8], most: u32) {
     let mut tally = Tally::default();
     for length in 0..=most {
         for index in 0..marks.len().pow(length) {

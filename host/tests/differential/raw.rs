@@ -4,12 +4,15 @@
 #![allow(unsafe_code)]
 
 use host::entries::raw::{notice_read, notice_render, notice_resolve, notice_same_label};
-use host::second;
+use host::second::{self, DEFINITION_ROW_WIDTH, SPAN_ROW_WIDTH};
 use std::ptr::{null, null_mut};
 
 /// No number of any answer.
 const GUARD: u64 = u64::MAX;
 const NOTE: &[u8] = b"[a]: /x\n[b]: <>\n\n`c` [a]\n";
+/// The numbers of its rows.
+const DEFINITIONS: usize = 2 * DEFINITION_ROW_WIDTH;
+const SPANS: usize = 2 * SPAN_ROW_WIDTH;
 
 /// Calls with an answer between guards; returns the number and what is stored.
 fn guarded<const COUNT: usize>(call: impl Fn(*mut [u64; COUNT]) -> u32) -> (u32, [u64; COUNT]) {
@@ -45,10 +48,10 @@ fn lendings() -> Vec<(Vec<u8>, [usize; 3])> {
         (vec![b'a'; 32_769], [0, 0, 0]),
         (b"ab\r".to_vec(), [0, 0, 0]),
         (NOTE.to_vec(), [0, 0, 0]),
-        (deep, [12, 0, 0]),
-        (NOTE.to_vec(), [12, 0, 0]),
-        (NOTE.to_vec(), [12, 20, 0]),
-        (NOTE.to_vec(), [12, 20, 41]),
+        (deep, [DEFINITIONS, 0, 0]),
+        (NOTE.to_vec(), [DEFINITIONS, 0, 0]),
+        (NOTE.to_vec(), [DEFINITIONS, SPANS, 0]),
+        (NOTE.to_vec(), [DEFINITIONS, SPANS, 41]),
     ]
 }
 

@@ -114,6 +114,8 @@ pub struct Tally {
     writer: [usize; 9],
     enquiry: [usize; 9],
     kinds: [usize; 6],
+    /// Definitions past the note's first line, definitions over lines, spans past it, spans over lines.
+    lines: [usize; 4],
 }
 
 impl Tally {
@@ -141,6 +143,23 @@ impl Tally {
             "kinds of row {:?}",
             self.kinds
         );
+        assert!(from(&self.lines, &[0, 1, 2, 3]), "lines {:?}", self.lines);
+    }
+
+    /// Counts the rows of a note.
+    fn count_rows(&mut self, note: &[u8], need: &Need) {
+        let mut count = |line: u32, first: usize, part: &[u8]| {
+            self.lines[first] += usize::from(line > 1);
+            self.lines[first + 1] += usize::from(part.contains(&b'\n'));
+        };
+        for [label, _, _, destination_end, _, title_end, line] in &need.definitions {
+            let end = destination_end.max(title_end);
+            count(*line, 0, &note[*label as usize..*end as usize]);
+        }
+        for [kind, start, end, .., line] in &need.spans {
+            count(*line, 2, &note[*start as usize..*end as usize]);
+            self.kinds[*kind as usize] += 1;
+        }
     }
 }
 
@@ -148,9 +167,7 @@ impl Tally {
 pub fn compare(note: &[u8], variant: u64, tally: &mut Tally) -> Result<(), String> {
     let chance = &mut Chance::from_seed(variant);
     let need = Need::of(note);
-    for row in &need.spans {
-        tally.kinds[row[0] as usize] += 1;
-    }
+    tally.count_rows(note, &need);
     count(
         &mut tally.writer,
         compare::render(note, need.by_chance(chance)),

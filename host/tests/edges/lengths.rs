@@ -31,7 +31,7 @@ fn longest_notes_of_hard_bytes() {
     // "No depth limit on parentheses."
     let deep = "(".repeat(16_381) + &")".repeat(16_381);
     let note = format!("[a]({deep})");
-    assert_eq!(spans(&note), [[2, 0, 32_767, 1, 2, 0, 4, 32_766, 0, 0]]);
+    assert_eq!(spans(&note), [[2, 0, 32_767, 1, 2, 0, 4, 32_766, 0, 0, 1]]);
     // With one more opened, the last parenthesis belongs to the destination.
     let one_more = "(".repeat(16_382) + &")".repeat(16_381);
     assert_eq!(spans(&format!("[a]({one_more})")), [] as [SpanRow; 0]);
@@ -50,7 +50,7 @@ fn labels_of_999_and_1000_characters() {
         let (note, length) = defined_and_used(&character.repeat(999));
         assert_eq!(
             definitions(&note),
-            [[1, 1 + length, 4 + length, 6 + length, 0, 0]]
+            [[1, 1 + length, 4 + length, 6 + length, 0, 0, 1]]
         );
         assert_eq!(
             spans(&note),
@@ -64,7 +64,8 @@ fn labels_of_999_and_1000_characters() {
                 4 + length,
                 6 + length,
                 0,
-                0
+                0,
+                3
             ]]
         );
         let (note, _) = defined_and_used(&character.repeat(1_000));
@@ -93,9 +94,9 @@ fn spaces_count_in_a_label_though_they_compare_as_one() {
     assert!(spans(&format!("{define}[{too_long}][]")).is_empty());
     // Full; and where no label stands, the shortcut before it.
     let full = spans(&format!("{define}[foo][{long}]"));
-    assert_eq!(full, [[3, 21, 1_027, 22, 25, 1, 7, 9, 0, 0]]);
+    assert_eq!(full, [[3, 21, 1_027, 22, 25, 1, 7, 9, 0, 0, 4]]);
     let shortcut = spans(&format!("{define}[foo][{too_long}]"));
-    assert_eq!(shortcut, [[5, 21, 26, 22, 25, 2, 17, 19, 0, 0]]);
+    assert_eq!(shortcut, [[5, 21, 26, 22, 25, 2, 17, 19, 0, 0, 4]]);
     // The enquiry.
     let note = define.as_bytes();
     assert_eq!(second::resolve(note, long.as_bytes()), found(7, 9));

@@ -1,16 +1,19 @@
 //! The edges of document 01 against the second reader. Rows and numbers were computed by hand from
-//! document 01; where the reader disagreed, they were counted again from the note.
+//! document 01, lines from document 02; where the reader disagreed, they were counted again from the
+//! note.
 
 mod bench;
 mod blocks;
 mod brackets;
 mod labels;
 mod lengths;
+mod lines;
 mod markings;
 mod pages;
 mod refusals;
 
 use host::second::{self, DefinitionRow, ReadAnswer, RenderAnswer, ResolveAnswer, SpanRow};
+use host::second::{DEFINITION_ROW_WIDTH, SPAN_ROW_WIDTH};
 
 /// The reader with more lent than any note needs.
 fn read(note: &[u8]) -> ReadAnswer {
@@ -53,7 +56,8 @@ fn check(note: &str, definition_rows: &[DefinitionRow], span_rows: &[SpanRow], h
         page: Some(html.as_bytes().to_vec()),
     };
     // Exactly what is needed is lent.
-    let (definition_numbers, span_numbers) = (6 * definition_rows.len(), 10 * span_rows.len());
+    let definition_numbers = definition_rows.len() * DEFINITION_ROW_WIDTH;
+    let span_numbers = span_rows.len() * SPAN_ROW_WIDTH;
     assert_eq!(
         second::render(
             note.as_bytes(),

@@ -2,13 +2,17 @@
 
 use super::{check, found, page, read, refused, refused_enquiry};
 use host::second::{self, DefinitionRow, ReadAnswer, RenderAnswer, SpanRow};
+use host::second::{DEFINITION_ROW_WIDTH, SPAN_ROW_WIDTH};
 
 const NOTE: &str = "[a]: /x\n[b]: /y\n\n`c` [a]\n";
-const NOTE_DEFINITIONS: [DefinitionRow; 2] = [[1, 2, 5, 7, 0, 0], [9, 10, 13, 15, 0, 0]];
+const NOTE_DEFINITIONS: [DefinitionRow; 2] = [[1, 2, 5, 7, 0, 0, 1], [9, 10, 13, 15, 0, 0, 2]];
 const NOTE_SPANS: [SpanRow; 2] = [
-    [1, 17, 20, 18, 19, 0, 0, 0, 0, 0],
-    [5, 21, 24, 22, 23, 1, 5, 7, 0, 0],
+    [1, 17, 20, 18, 19, 0, 0, 0, 0, 0, 4],
+    [5, 21, 24, 22, 23, 1, 5, 7, 0, 0, 4],
 ];
+/// The numbers of its two definition rows, and of its two span rows.
+const DEFINITIONS: usize = 2 * DEFINITION_ROW_WIDTH;
+const SPANS: usize = 2 * SPAN_ROW_WIDTH;
 const NOTE_PAGE: &str = "<p><code>c</code> <a href=\"/x\">a</a></p>\n";
 
 #[test]
@@ -30,21 +34,27 @@ fn refusals_in_order() {
         refused(2, 20 + 1_025)
     );
     assert_eq!(second::read(deep.as_bytes(), 0, 0), refused(3, 2));
-    assert_eq!(second::read(deep.as_bytes(), 11, 0), refused(3, 2));
+    assert_eq!(
+        second::read(deep.as_bytes(), DEFINITIONS - 1, 0),
+        refused(3, 2)
+    );
     let with_definitions = |number, value| ReadAnswer {
         definition_rows: Some(NOTE_DEFINITIONS.to_vec()),
         ..refused(number, value)
     };
     assert_eq!(
-        second::read(deep.as_bytes(), 12, 0),
+        second::read(deep.as_bytes(), DEFINITIONS, 0),
         with_definitions(4, 20 + 1_024)
     );
-    assert_eq!(second::read(NOTE.as_bytes(), 12, 0), with_definitions(5, 2));
     assert_eq!(
-        second::read(NOTE.as_bytes(), 12, 19),
+        second::read(NOTE.as_bytes(), DEFINITIONS, 0),
         with_definitions(5, 2)
     );
-    assert_eq!(second::read(NOTE.as_bytes(), 12, 20).number, 0);
+    assert_eq!(
+        second::read(NOTE.as_bytes(), DEFINITIONS, SPANS - 1),
+        with_definitions(5, 2)
+    );
+    assert_eq!(second::read(NOTE.as_bytes(), DEFINITIONS, SPANS).number, 0);
 }
 
 #[test]
@@ -72,33 +82,39 @@ fn refusals_of_the_page_writer() {
     let long = vec![0; 32_769];
     assert_eq!(second::render(&long, 0, 0, 0), refused(1, 32_769));
     assert_eq!(second::render(&long[..9], 0, 0, 0), refused(2, 0));
-    assert_eq!(second::render(deep.as_bytes(), 11, 0, 0), refused(3, 2));
     assert_eq!(
-        second::render(deep.as_bytes(), 12, 0, 0),
+        second::render(deep.as_bytes(), DEFINITIONS - 1, 0, 0),
+        refused(3, 2)
+    );
+    assert_eq!(
+        second::render(deep.as_bytes(), DEFINITIONS, 0, 0),
         with_definitions(4, 20 + 1_024)
     );
     let note = NOTE.as_bytes();
-    assert_eq!(second::render(note, 12, 19, 0), with_definitions(5, 2));
+    assert_eq!(
+        second::render(note, DEFINITIONS, SPANS - 1, 0),
+        with_definitions(5, 2)
+    );
     let short_page = RenderAnswer {
         span_rows: Some(NOTE_SPANS.to_vec()),
         ..with_definitions(6, 41)
     };
-    assert_eq!(second::render(note, 12, 20, 0), short_page);
-    assert_eq!(second::render(note, 12, 20, 40), short_page);
-    assert_eq!(second::render(note, 12, 20, 41).number, 0);
+    assert_eq!(second::render(note, DEFINITIONS, SPANS, 0), short_page);
+    assert_eq!(second::render(note, DEFINITIONS, SPANS, 40), short_page);
+    assert_eq!(second::render(note, DEFINITIONS, SPANS, 41).number, 0);
 }
 
 #[test]
 fn memory_past_the_part_in_use_is_unchanged() {
     let note = NOTE.as_bytes();
-    let definitions_before = [7; 15];
-    let spans_before = [8; 23];
+    let definitions_before = [7; DEFINITIONS + 3];
+    let spans_before = [8; SPANS + 3];
     let page_before = [9; 45];
     let table_with_rows = |rows: Vec<u32>, rest: &[u32]| [rows, rest.to_vec()].concat();
     let definitions_after = table_with_rows(NOTE_DEFINITIONS.concat(), &[7; 3]);
     let spans_after = table_with_rows(NOTE_SPANS.concat(), &[8; 3]);
 
-    let answer = second::render(note, 15, 23, 45);
+    let answer = second::render(note, DEFINITIONS + 3, SPANS + 3, 45);
     assert_eq!(
         answer.definition_table(&definitions_before),
         definitions_after
@@ -108,7 +124,7 @@ fn memory_past_the_part_in_use_is_unchanged() {
         answer.page_buffer(&page_before),
         [NOTE_PAGE.as_bytes(), &[9; 4]].concat()
     );
-    let answer = second::render(note, 15, 23, 40);
+    let answer = second::render(note, DEFINITIONS + 3, SPANS + 3, 40);
     assert_eq!(
         answer.definition_table(&definitions_before),
         definitions_after
@@ -116,14 +132,16 @@ fn memory_past_the_part_in_use_is_unchanged() {
     assert_eq!(answer.span_table(&spans_before), spans_after);
     assert_eq!(answer.page_buffer(&page_before[..40]), [9; 40]);
 
-    let answer = second::read(note, 15, 19);
+    let answer = second::read(note, DEFINITIONS + 3, SPANS - 1);
     assert_eq!(
         answer.definition_table(&definitions_before),
         definitions_after
     );
-    assert_eq!(answer.span_table(&spans_before[..19]), [8; 19]);
-    let answer = second::read(note, 11, 23);
-    assert_eq!(answer.definition_table(&definitions_before[..11]), [7; 11]);
+    let too_few = &spans_before[..SPANS - 1];
+    assert_eq!(answer.span_table(too_few), too_few);
+    let answer = second::read(note, DEFINITIONS - 1, SPANS + 3);
+    let too_few = &definitions_before[..DEFINITIONS - 1];
+    assert_eq!(answer.definition_table(too_few), too_few);
     assert_eq!(answer.span_table(&spans_before), spans_before);
 }
 

@@ -28,7 +28,12 @@ fn compare_definitions(note: &str, listed: &[Value], rows: &[DefinitionRow]) {
     for (index, (item, row)) in listed.iter().zip(rows).enumerate() {
         let [label, destination, title] =
             ["label", "destination", "title"].map(|key| part(note, item, key));
-        assert_eq!([label, destination, title].concat(), row, "{note:?}");
+        let parts = [label, destination, title].concat();
+        assert_eq!(
+            [parts, vec![number(item, "line")]].concat(),
+            row,
+            "{note:?}"
+        );
         assert_eq!(number(item, "number"), index as u32 + 1);
         assert_place(note, item, row[0] as usize - 1);
         compare_hidden(note, item, index, rows);
@@ -113,8 +118,9 @@ fn span_row(
     let [start, end] = ["start", "end"].map(|key| number(item, key));
     assert_place(note, item, start as usize);
     let [[from, to], [title_from, title_to]] = parts;
+    let line = number(item, "line");
     [
-        kind, start, end, text[0], text[1], definition, from, to, title_from, title_to,
+        kind, start, end, text[0], text[1], definition, from, to, title_from, title_to, line,
     ]
 }
 

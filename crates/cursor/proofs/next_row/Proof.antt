@@ -3,6 +3,7 @@ use Prim.Native.Nat.{_-_}
 use mathlib.Core.Path.{sym, ap, _∙_}
 use borrow.Author.Needs.{needs}
 use Rattle.cursor.specs.Cursor.{waits}
+use Rattle.span.specs.Reading.{lineIn}
 use Rattle.cursor.proofs.Rows.{Passed, none-passed, one-passed, found-there, none-there, row-read}
 use Rattle.cursor.proofs.next_row.Statement.{statement}
 use Rattle.cursor.proofs.next_row.Tie as tie
@@ -28,7 +29,7 @@ returns c =
     let a = l .before .before .args in
     let row = row-read (a .spans .now) (l .before .before .pre) (c .before .before .before .loop-test .taken) (c .before .before .span-at .ensures) in
     found-there (a .spans .now) (a .count) (a .code) (a .at) (a .start) (l .loop .inv)
-    (sym (ap (waits (a .code) (a .at)) row) ∙ sym (c .before .row-waits .ensures) ∙ c .if1 .taken)
+    (sym (ap (waits (a .code) (a .at)) row) ∙ sym (c .before .row-waits .ensures (lineIn (a .spans .now) (l .loop .k))) ∙ c .if1 .taken)
 
 add-k : tie.Need-add-k Inv-loop μ-loop
 add-k c = search needs
@@ -42,7 +43,7 @@ loop-again c =
     let a = l .before .before .args in
     let row = row-read (a .spans .now) (l .before .before .pre) (c .before .before .before .loop-test .taken) (c .before .before .span-at .ensures) in
     one-passed (a .spans .now) (a .count) (a .code) (a .at) (a .start) (l .loop .inv)
-    (sym (ap (waits (a .code) (a .at)) row) ∙ sym (c .before .row-waits .ensures) ∙ c .if1 .left)
+    (sym (ap (waits (a .code) (a .at)) row) ∙ sym (c .before .row-waits .ensures (lineIn (a .spans .now) (l .loop .k))) ∙ c .if1 .left)
 
 returns-2 : tie.Need-returns-2 Inv-loop μ-loop
 returns-2 c =

@@ -20,7 +20,7 @@ returns c =
     let f = c .before .before in
     let a = f .before .before .before .args in
     let row = row-read (a .spans .now) (f .before .before .before .pre) (f .before .if1 .taken) (f .span-at .ensures) in
-    let place = c .before .next-place .ensures ∙ ap (λ (r : List ℕ). nextPlace r (a .at)) row in
+    let place = c .before .next-place .ensures 0 ∙ ap (λ (r : List ℕ). nextPlace r (a .at)) row in
     place ∙ sym (row-first (a .spans .now) (a .count) (a .k) (a .at) (a .end) (f .before .if1 .taken) (omega (arith, place, c .if2 .taken)))
 
 returns-2 : tie.Need-returns-2
@@ -28,7 +28,7 @@ returns-2 c =
     let f = c .before .before in
     let a = f .before .before .before .args in
     let row = row-read (a .spans .now) (f .before .before .before .pre) (f .before .if1 .taken) (f .span-at .ensures) in
-    let place = c .before .next-place .ensures ∙ ap (λ (r : List ℕ). nextPlace r (a .at)) row in
+    let place = c .before .next-place .ensures 0 ∙ ap (λ (r : List ℕ). nextPlace r (a .at)) row in
     sym (end-first (a .spans .now) (a .count) (a .k) (a .at) (a .end) (f .before .if1 .taken) (omega (arith, place, c .if2 .left)))
 
 returns-3 : tie.Need-returns-3

@@ -6,12 +6,12 @@ use mathlib.Core.Path.{_≡_, sym}
 use Prim.Native.Nat.{_-_}
 use lib.ListN.{length}
 use Rattle.matching.specs.Reading.{equals, matches}
-use Rattle.matching.proofs.Turn.{formFrom, past-from, begins, both-inside, differ, both-over, agreed}
-use Rattle.matching.proofs.Quick.{unlike-first, same-left, same-right, same-on}
+use Rattle.matching.proofs.Turn.{formFrom, past-from, both-inside, differ, both-over, agreed}
+use Rattle.matching.proofs.Quick.{unlike-first, same-left, same-right, same-on, start-on}
 use Rattle.matching.proofs.same_label.Statement.{statement}
 use Rattle.matching.proofs.same_label.Tie as tie
 
-ruleset turns = (begins, same-on, needs)
+ruleset turns = (same-on, needs)
 
 abbrev Inv-loop : tie.InvT-loop
 Inv-loop a b i₀ j₀ i j = equals (formFrom a i) (formFrom b j) ≡ matches a b
@@ -32,8 +32,11 @@ returns : tie.Need-returns Inv-loop μ-loop
 returns c =
     sym (unlike-first _ _ (c .before .before .before .peek .ensures) (c .before .before .peek2 .ensures) (c .before .are-unlike .ensures) (c .if1 .taken))
 
+same-start-requires : tie.Need-same-start-requires Inv-loop μ-loop
+same-start-requires c κs = search turns
+
 loop-holds : tie.Need-loop-holds Inv-loop μ-loop
-loop-holds c = search turns
+loop-holds c = start-on _ _ (c .same-start .ensures)
 
 same-at-requires : tie.Need-same-at-requires Inv-loop μ-loop
 same-at-requires c κs = search turns
@@ -96,6 +99,7 @@ same-label-spec =
     peek-requires-2
     are-unlike-requires
     returns
+    same-start-requires
     loop-holds
     same-at-requires
     add-i

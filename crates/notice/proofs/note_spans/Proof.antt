@@ -2,22 +2,25 @@
 use borrow.Author.Needs.{needs}
 use Prim.Native.Nat.{_-_}
 use native.Mathlib.Omega.{arith}
-use mathlib.Core.Path.{_≡_, refl}
+use mathlib.Core.Path.{_≡_, refl, _∙_}
 use lib.ListN.{length}
-use Rattle.notice.proofs.Turns.{Going, starts, same-size, still-same-size, all-passed, less, place-fits, place-within, too-deep, further}
+use Rattle.notice.proofs.Turns.{Going, starts, same-size, all-passed, less, place-fits, place-within, too-deep, further}
 use Rattle.notice.proofs.note_spans.Statement.{statement}
 use Rattle.notice.proofs.note_spans.Tie as tie
 
-ruleset turns = (starts, same-size, still-same-size, all-passed, less, place-fits, place-within, too-deep, further, needs)
+ruleset turns = (same-size, all-passed, less, place-fits, needs)
 
 abbrev Inv-loop : tie.InvT-loop
-Inv-loop note definitions count spans₀ stack₀ runs₀ marks₀ at₀ k₀ spans stack runs marks at k = Going note spans₀ spans at k × (length marks ≡ length marks₀) × (length stack ≡ length stack₀)
+Inv-loop note definitions count spans₀ stack₀ runs₀ marks₀ at₀ w₀ spans stack runs marks at w = Going note spans₀ spans at w × (length marks ≡ length marks₀) × (length stack ≡ length stack₀)
 
 abbrev μ-loop : tie.MeasureT-loop
-μ-loop note definitions count spans₀ stack₀ runs₀ marks₀ at₀ k₀ spans stack runs marks at k = length note - at
+μ-loop note definitions count spans₀ stack₀ runs₀ marks₀ at₀ w₀ spans stack runs marks at w = length note - at
+
+first-requires : tie.Need-first-requires Inv-loop μ-loop
+first-requires c κs = search turns
 
 loop-holds : tie.Need-loop-holds Inv-loop μ-loop
-loop-holds c = (search turns, refl, refl)
+loop-holds c = (starts _ _ (c .first .ensures), refl, refl)
 
 next-paragraph-requires : tie.Need-next-paragraph-requires Inv-loop μ-loop
 next-paragraph-requires c κs = search turns
@@ -41,34 +44,34 @@ returns : tie.Need-returns Inv-loop μ-loop
 returns c = search turns
 
 read-paragraph-requires : tie.Need-read-paragraph-requires Inv-loop μ-loop
-read-paragraph-requires c κs = let l = c .before .before .before .before .before .before .before .before .loop .inv in let p = c .before .before .before .before .before .before .before .before .before .before .before .before .before .before .pre .1 in (search turns, (search turns, record { places = omega (arith, p .places, l .2); bytes = omega (arith, p .bytes, l .1) }))
+read-paragraph-requires c κs = let l = c .before .before .before .before .before .before .before .before .loop .inv in let p = c .before .before .before .before .before .before .before .before .before .before .before .before .before .before .before .pre .1 in (search turns, (search turns, record { places = omega (arith, p .places, l .2); bytes = omega (arith, p .bytes, l .1) }))
 
 enum-known-place : tie.Need-enum-known-place Inv-loop μ-loop
 enum-known-place c = search turns
 
 add-t24 : tie.Need-add-t24 Inv-loop μ-loop
-add-t24 c = omega (arith, place-within (c .before .before .before .before .before .before .before .before .before .before .before .before .before .before .before .before .before .before .before .before .before .before .before .before .args .note .now) _ (c .before .before .before .before .before .before .before .before .before .before .before .before .before .before .before .before .before .before .loop .inv .0) (c .before .before .before .before .before .before .before .before .before .before .before .before .before .before .before .before .before .next-paragraph .ensures) (c .before .before .before .before .before .before .before .before .before .before .before .before .before .before .before .start .given .1) (c .before .before .before .before .before .before .before .before .before .before .before .before .before .before .before .before .before .before .before .before .before .before .before .before .pre .0) (c .before .before .before .before .before .before .before .before .before .read-paragraph .ensures) (c .before .place .given .1))
+add-t24 c = omega (arith, place-within (c .before .before .before .before .before .before .before .before .before .before .before .before .before .before .before .before .before .before .before .before .before .before .before .before .before .args .note .now) _ (c .before .before .before .before .before .before .before .before .before .before .before .before .before .before .before .before .before .before .loop .inv .0) (c .before .before .before .before .before .before .before .before .before .before .before .before .before .before .before .before .before .next-paragraph .ensures) (c .before .before .before .before .before .before .before .before .before .before .before .before .before .before .before .start .given .1) (c .before .before .before .before .before .before .before .before .before .before .before .before .before .before .before .before .before .before .before .before .before .before .before .before .before .pre .0) (c .before .before .before .before .before .before .before .before .before .read-paragraph .ensures) (c .before .place .given .1))
 
 same-length-4 : tie.Need-same-length-4 Inv-loop μ-loop
-same-length-4 c = search turns
+same-length-4 c = c .before .before .before .before .before .before .before .before .before .read-paragraph .kept .1 .1 .1 .1 .1 .0 ∙ same-size _ _ (c .before .before .before .before .before .before .before .before .before .before .before .before .before .before .before .before .before .before .loop .inv .0)
 
 same-length-5 : tie.Need-same-length-5 Inv-loop μ-loop
-same-length-5 c = search turns
+same-length-5 c = c .before .before .before .before .before .before .before .before .before .read-paragraph .kept .1 .1 .1 .1 .1 .1 .1 .0 ∙ c .before .before .before .before .before .before .before .before .before .before .before .before .before .before .before .before .before .before .loop .inv .2
 
 same-length-6 : tie.Need-same-length-6 Inv-loop μ-loop
-same-length-6 c = search turns
+same-length-6 c = c .before .before .before .before .before .before .before .before .before .read-paragraph .kept .1 .1 .1 .1 .1 .1 .1 .1 .1 .0 ∙ c .before .before .before .before .before .before .before .before .before .before .before .before .before .before .before .before .before .before .loop .inv .1
 
 returns-2 : tie.Need-returns-2 Inv-loop μ-loop
-returns-2 c = too-deep (c .before .before .before .before .before .before .before .before .before .before .before .before .before .before .before .before .before .before .before .before .before .before .before .before .args .note .now) _ (c .before .before .before .before .before .before .before .before .before .before .before .before .before .before .before .before .before .before .loop .inv .0) (c .before .before .before .before .before .before .before .before .before .before .before .before .before .before .before .before .before .next-paragraph .ensures) (c .before .before .before .before .before .before .before .before .before .before .before .before .before .before .before .start .given .1) (c .before .before .before .before .before .before .before .before .before .before .before .before .before .before .before .before .before .before .before .before .before .before .before .before .pre .0) (c .before .before .before .before .before .before .before .before .before .read-paragraph .ensures) (c .before .place .given .1)
+returns-2 c = too-deep (c .before .before .before .before .before .before .before .before .before .before .before .before .before .before .before .before .before .before .before .before .before .before .before .before .before .args .note .now) _ (c .before .before .before .before .before .before .before .before .before .before .before .before .before .before .before .before .before .before .loop .inv .0) (c .before .before .before .before .before .before .before .before .before .before .before .before .before .before .before .before .before .next-paragraph .ensures) (c .before .before .before .before .before .before .before .before .before .before .before .before .before .before .before .start .given .1) (c .before .before .before .before .before .before .before .before .before .before .before .before .before .before .before .before .before .before .before .before .before .before .before .before .before .pre .0) (c .before .before .before .before .before .before .before .before .before .read-paragraph .ensures) (c .before .place .given .1)
 
-enum-known-n : tie.Need-enum-known-n Inv-loop μ-loop
-enum-known-n c = search turns
+enum-known-v : tie.Need-enum-known-v Inv-loop μ-loop
+enum-known-v c = search turns
 
 loop-less : tie.Need-loop-less Inv-loop μ-loop
 loop-less c = search turns
 
 loop-again : tie.Need-loop-again Inv-loop μ-loop
-loop-again c = (search turns, search turns, search turns)
+loop-again c = (further (c .before .before .before .before .before .before .before .before .before .before .before .before .before .before .before .before .before .before .before .before .before .before .before .before .before .args .note .now) _ (c .before .before .before .before .before .before .before .before .before .before .before .before .before .before .before .before .before .before .loop .inv .0) (c .before .before .before .before .before .before .before .before .before .before .before .before .before .before .before .before .before .next-paragraph .ensures) (c .before .before .before .before .before .before .before .before .before .before .before .before .before .before .before .start .given .1) (c .before .before .before .before .before .before .before .before .before .before .before .before .before .before .before .before .before .before .before .before .before .before .before .before .before .pre .0) (c .before .before .before .before .before .before .before .before .before .read-paragraph .ensures) (c .before .v .given .1), c .before .before .before .before .before .before .before .before .before .read-paragraph .kept .1 .1 .1 .1 .1 .1 .1 .1 .1 .0 ∙ c .before .before .before .before .before .before .before .before .before .before .before .before .before .before .before .before .before .before .loop .inv .1, c .before .before .before .before .before .before .before .before .before .read-paragraph .kept .1 .1 .1 .1 .1 .1 .1 .0 ∙ c .before .before .before .before .before .before .before .before .before .before .before .before .before .before .before .before .before .before .loop .inv .2)
 
 pub note-spans-spec : {M : Type 1} → statement M
 note-spans-spec =
@@ -76,6 +79,7 @@ note-spans-spec =
     (tie.spec
     Inv-loop
     μ-loop
+    first-requires
     loop-holds
     next-paragraph-requires
     enum-known-start
@@ -91,6 +95,6 @@ note-spans-spec =
     same-length-5
     same-length-6
     returns-2
-    enum-known-n
+    enum-known-v
     loop-less
     loop-again)

@@ -1,5 +1,7 @@
--- The three parts put one after the other are the row put.
+-- The three parts and the line put one after the other are the row put.
 use borrow.Author.Needs.{needs}
+use native.Mathlib.Omega.{arith}
+use lib.ListN.{length-set}
 use Rattle.row.proofs.Put.{no-row, parts-put}
 use Rattle.row.proofs.store.Statement.{statement}
 use Rattle.row.proofs.store.Tie as tie
@@ -25,22 +27,29 @@ add-store-range-2 c = search needs
 store-range-requires-3 : tie.Need-store-range-requires-3
 store-range-requires-3 c κs = search needs
 
+cast-table : tie.Need-cast-table
+cast-table c = search needs
+
+add-table : tie.Need-add-table
+add-table c = search needs
+
+mul-table : tie.Need-mul-table
+mul-table c = search needs
+
+slice-write-table : tie.Need-slice-write-table
+slice-write-table c = search needs
+
 same-length : tie.Need-same-length
-same-length c = search needs
+same-length c = simp length-set (omega (arith, c .before .table3 .given, c .before .before .before .before .before .table2 .given, c .before .before .before .before .before .before .before .before .before .table .given))
 
 returns : tie.Need-returns
-returns c =
-    let before = c .before .before .before .before .before .before .before .before .before .before in
-    let test = before .before .before in
-    let a = test .before .before .before .before .args in
-    parts-put _ (a .k) (a .d) (rw (test .before .whole-rows .ensures) at (test .if1 .taken)) (before .store-range .ensures) (c .before .before .before .before .before .before .store-range2 .ensures)
-    (c .before .before .store-range3 .ensures)
+returns c = let a = c .before .before .before .before .before .before .before .before .before .before .before .before .before .before .before .before .args in parts-put (a .line) _ (a .k) (a .d) (rw (c .before .before .before .before .before .before .before .before .before .before .before .before .before .whole-rows .ensures) at (c .before .before .before .before .before .before .before .before .before .before .before .before .if1 .taken)) (c .before .before .before .before .before .before .before .before .before .before .store-range .ensures) (c .before .before .before .before .before .before .store-range2 .ensures) (c .before .before .store-range3 .ensures) (omega (arith, c .before .table3 .given, c .before .before .before .before .before .table2 .given, c .before .before .before .before .before .before .before .before .before .table .given))
 
 same-length-2 : tie.Need-same-length-2
 same-length-2 c = search needs
 
 returns-2 : tie.Need-returns-2
-returns-2 c = let a = c .before .before .before .before .args in no-row _ (a .k) (a .d) (rw (c .before .whole-rows .ensures) at (c .if1 .left))
+returns-2 c = let a = c .before .before .before .before .args in no-row (a .line) _ (a .k) (a .d) (rw (c .before .whole-rows .ensures) at (c .if1 .left))
 
 pub store-spec : {M : Type 1} → statement M
 store-spec =
@@ -53,6 +62,10 @@ store-spec =
     store-range-requires-2
     add-store-range-2
     store-range-requires-3
+    cast-table
+    add-table
+    mul-table
+    slice-write-table
     same-length
     returns
     same-length-2

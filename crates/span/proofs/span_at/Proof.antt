@@ -36,7 +36,7 @@ shared-slice-read-definition : tie.Need-shared-slice-read-definition
 shared-slice-read-definition c = search needs
 
 cast-definition : tie.Need-cast-definition
-cast-definition c = omega (arith, c .shared-slice-known3 .given (c .before .before .before .before .before .args .k * 10 + 5))
+cast-definition c = omega (arith, c .shared-slice-known3 .given (c .before .before .before .before .before .args .k * 11 + 5))
 
 add-range-at-3 : tie.Need-add-range-at-3
 add-range-at-3 c = search needs

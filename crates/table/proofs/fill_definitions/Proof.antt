@@ -2,20 +2,23 @@
 use borrow.Author.Needs.{needs}
 use Prim.Native.Nat.{_-_}
 use lib.ListN.{length}
-use Rattle.table.proofs.Filling.{Filling, starts, stands-there, same-size, all-counted, all-stored, small, count-fits, less, further}
+use Rattle.table.proofs.Filling.{Filling, starts, stands-there, same-size, all-counted, all-stored, small, count-fits, less, bracket-there, bracket-inside, line-before, line-small, further}
 use Rattle.table.proofs.fill_definitions.Statement.{statement}
 use Rattle.table.proofs.fill_definitions.Tie as tie
 
-ruleset turns = (starts, stands-there, same-size, all-counted, all-stored, small, count-fits, less, further, needs)
+ruleset turns = (stands-there, same-size, all-counted, all-stored, small, count-fits, less, needs)
 
 abbrev Inv-loop : tie.InvT-loop
-Inv-loop note table₀ count₀ c₀ table count c = Filling note table₀ table count c
+Inv-loop note table₀ count₀ c₀ line₀ table count c line = Filling note table₀ table count c line
 
 abbrev μ-loop : tie.MeasureT-loop
-μ-loop note table₀ count₀ c₀ table count c = length note - c .at
+μ-loop note table₀ count₀ c₀ line₀ table count c line = length note - c .at
+
+none-requires : tie.Need-none-requires Inv-loop μ-loop
+none-requires c κs = search turns
 
 loop-holds : tie.Need-loop-holds Inv-loop μ-loop
-loop-holds c = search turns
+loop-holds c = starts _ _ (c .none .ensures)
 
 next-definition-requires : tie.Need-next-definition-requires Inv-loop μ-loop
 next-definition-requires c κs = search turns
@@ -32,8 +35,11 @@ same-length c = search turns
 returns : tie.Need-returns Inv-loop μ-loop
 returns c = search turns
 
+line-of-requires : tie.Need-line-of-requires Inv-loop μ-loop
+line-of-requires c κs = (bracket-there _ _ (c .before .before .before .before .before .loop .inv) (c .before .before .before .before .next-definition .ensures) (c .before .before .d .given .1), (line-before _ _ (c .before .before .before .before .before .loop .inv) (c .before .before .before .before .next-definition .ensures) (c .before .before .d .given .1), bracket-inside _ _ (c .before .before .before .before .before .loop .inv) (c .before .before .before .before .next-definition .ensures) (c .before .before .d .given .1)))
+
 store-requires : tie.Need-store-requires Inv-loop μ-loop
-store-requires c κs = search turns
+store-requires c κs = (small _ _ (c .before .before .before .before .before .before .before .loop .inv) (c .before .before .before .before .before .before .next-definition .ensures) (c .before .before .before .before .d .given .1) (c .before .before .before .before .before .before .before .before .before .before .before .pre), line-small _ _ (c .before .before .before .before .before .before .before .loop .inv) (c .before .before .before .before .before .before .next-definition .ensures) (c .before .before .before .before .d .given .1) (c .before .line-of .ensures) (c .before .before .before .before .before .before .before .before .before .before .before .pre))
 
 add-count : tie.Need-add-count Inv-loop μ-loop
 add-count c = search turns
@@ -42,7 +48,7 @@ loop-less : tie.Need-loop-less Inv-loop μ-loop
 loop-less c = search turns
 
 loop-again : tie.Need-loop-again Inv-loop μ-loop
-loop-again c = search turns
+loop-again c = further _ _ (c .before .before .before .before .before .before .before .before .before .before .loop .inv) (c .before .before .before .before .before .before .before .before .before .next-definition .ensures) (c .before .before .before .before .before .before .before .d .given .1) (c .before .before .before .before .line-of .ensures) (c .before .before .store .ensures)
 
 pub fill-definitions-spec : {M : Type 1} → statement M
 fill-definitions-spec =
@@ -50,12 +56,14 @@ fill-definitions-spec =
     (tie.spec
     Inv-loop
     μ-loop
+    none-requires
     loop-holds
     next-definition-requires
     enum-known-d
     enum-told
     same-length
     returns
+    line-of-requires
     store-requires
     add-count
     loop-less

@@ -6,6 +6,7 @@ use mathlib.Core.List.{List}
 use borrow.Author.Needs.{needs}
 use Rattle.writer.specs.Pass.{Called}
 use Rattle.cursor.proofs.Rows.{row-read}
+use Rattle.cursor.proofs.Found.{row-of-note}
 use Rattle.writer.proofs.Here.{goes, code-row, link-row, text-run}
 use Rattle.writer.proofs.write_next.Statement.{statement}
 use Rattle.writer.proofs.write_next.Tie as tie
@@ -35,7 +36,7 @@ write-row-requires c κs =
     let g = l .next-row2 .ensures in
     let (h, r) = code-row (t .pre .0) (t .pre .1) f g (c .before .before .before .row-place .ensures) (c .before .before .if1 .taken) in
     let row = row-read (t .args .spans .now) (t .pre .0 .room) h (c .before .span-at .ensures) in
-    (subst (λ (x : List ℕ). Called (t .args .note .now) (t .args .end) x (t .args .p .at)) (sym row) r, t .pre .1 .room)
+    (subst (λ (x : List ℕ). Called (t .args .note .now) (t .args .end) x (t .args .p .at)) (sym (row-of-note (t .args .note .now) (t .args .spans .now) _ _ (r .is-row) row)) r, t .pre .1 .room)
 
 same-length : tie.Need-same-length
 same-length c = search needs
@@ -67,7 +68,7 @@ write-row-requires-2 c κs =
     let g = l .next-row2 .ensures in
     let (h, r) = link-row (t .pre .0) (t .pre .1) f g (c .before .before .before .before .before .row-place .ensures) (c .before .before .before .before .if1 .left) (c .before .before .before .row-place2 .ensures) (c .before .before .if2 .taken) in
     let row = row-read (t .args .spans .now) (t .pre .0 .room) h (c .before .span-at2 .ensures) in
-    (subst (λ (x : List ℕ). Called (t .args .note .now) (t .args .end) x (t .args .p .at)) (sym row) r, t .pre .1 .room)
+    (subst (λ (x : List ℕ). Called (t .args .note .now) (t .args .end) x (t .args .p .at)) (sym (row-of-note (t .args .note .now) (t .args .spans .now) _ _ (r .is-row) row)) r, t .pre .1 .room)
 
 same-length-2 : tie.Need-same-length-2
 same-length-2 c = search needs

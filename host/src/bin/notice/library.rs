@@ -129,14 +129,15 @@ pub fn fault(words: &'static str) -> Failure {
 mod tests {
     use super::{grow, page, read, resolve, same_label, Failure};
     use crate::fault::Fault;
+    use crate::rows::{DEFINITION_WIDTH, SPAN_WIDTH};
 
     const NOTE: &[u8] = b"[max]: /q2/max \"June\"\n\nUse [max].\n";
 
     #[test]
     fn buffers_are_exactly_as_long_as_needed() {
         let tables = read(NOTE).expect("a good note");
-        assert_eq!(tables.definitions, [1, 4, 7, 14, 16, 20]);
-        assert_eq!(tables.spans, [5, 27, 32, 28, 31, 1, 7, 14, 16, 20]);
+        assert_eq!(tables.definitions, [1, 4, 7, 14, 16, 20, 1]);
+        assert_eq!(tables.spans, [5, 27, 32, 28, 31, 1, 7, 14, 16, 20, 3]);
         let html = page(NOTE).expect("a good note");
         assert_eq!(
             String::from_utf8_lossy(&html),
@@ -163,11 +164,12 @@ mod tests {
 
     #[test]
     fn needs_that_can_not_be_met() {
-        for (rows, width) in [(u64::MAX, 1), (u64::MAX, 10), (u64::MAX / 4, 1)] {
+        for (rows, width) in [(u64::MAX, 1), (u64::MAX, SPAN_WIDTH), (u64::MAX / 4, 1)] {
             let failure = grow(&mut Vec::<u32>::new(), rows, width);
             assert!(matches!(failure, Err(Failure::Fault(Fault::Memory))));
         }
-        let failure = grow(&mut vec![0_u32; 12], 2, 6);
+        let lent = &mut vec![0_u32; 2 * DEFINITION_WIDTH];
+        let failure = grow(lent, 2, DEFINITION_WIDTH);
         assert!(matches!(failure, Err(Failure::Fault(Fault::Library(_)))));
     }
 }

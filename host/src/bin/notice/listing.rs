@@ -4,7 +4,7 @@ use std::borrow::Cow;
 use std::ops::Range;
 
 use crate::library::{self, Failure};
-use crate::places::{Lines, Place};
+use crate::places::Place;
 use crate::rows::{self, DefinitionRow, Kind, SpanRow};
 
 /// A part of the note and its text.
@@ -72,7 +72,6 @@ pub fn of(note: &[u8]) -> Result<Listing<'_>, Failure> {
         rows::spans(&tables.spans).ok_or_else(|| library::fault("a span row of no kind"))?;
     let lister = Lister {
         note,
-        lines: Lines::of(note),
         rows: rows::definitions(&tables.definitions),
     };
     let (codes, links): (Vec<SpanRow>, Vec<SpanRow>) =
@@ -89,7 +88,6 @@ pub fn of(note: &[u8]) -> Result<Listing<'_>, Failure> {
 
 struct Lister<'n> {
     note: &'n [u8],
-    lines: Lines<'n>,
     rows: Vec<DefinitionRow>,
 }
 
@@ -112,11 +110,6 @@ impl<'n> Lister<'n> {
         one.map(bytes) != other.map(bytes)
     }
 
-    /// The place of a definition: of its label's opening bracket.
-    fn place(&self, row: &DefinitionRow) -> Place {
-        self.lines.place(row.label.start - 1)
-    }
-
     fn definitions(&self) -> Result<Vec<Definition<'n>>, Failure> {
         let rows = self.rows.iter().enumerate();
         rows.map(|(index, row)| Ok(self.definition(row, self.hidden_by(index)?)))
@@ -136,7 +129,7 @@ impl<'n> Lister<'n> {
 
     fn definition(&self, row: &DefinitionRow, hidden_by: Option<usize>) -> Definition<'n> {
         Definition {
-            place: self.place(row),
+            place: Place::on_line(row.line, self.note, row.label.start - 1),
             label: self.part(row.label.clone()),
             destination: self.part(row.destination.clone()),
             title: self.optional(row.title.clone()),
@@ -156,7 +149,7 @@ impl<'n> Lister<'n> {
     fn named(&self, index: usize) -> Named {
         Named {
             number: index + 1,
-            line: self.place(&self.rows[index]).line,
+            line: self.rows[index].line,
         }
     }
 
@@ -169,7 +162,7 @@ impl<'n> Lister<'n> {
         }
         Ok(Link {
             kind: row.kind,
-            place: self.lines.place(row.whole.start),
+            place: Place::on_line(row.line, self.note, row.whole.start),
             whole: row.whole,
             text: self.part(row.text),
             definition: row.definition.map(|number| self.named(number - 1)),
@@ -180,7 +173,7 @@ impl<'n> Lister<'n> {
 
     fn code(&self, row: SpanRow) -> Code<'n> {
         Code {
-            place: self.lines.place(row.whole.start),
+            place: Place::on_line(row.line, self.note, row.whole.start),
             whole: row.whole,
             text: self.part(row.text),
         }

@@ -1,7 +1,7 @@
 //! The command-line tool `notice`, over the three entries of the proved library.
 //!
 //! Whatever it says of a note comes from those entries; what is its own is the arguments, the
-//! lines and columns, and the words. `help.txt` is what `notice --help` prints.
+//! columns, the lines that no row has, and the words. `help.txt` is what `notice --help` prints.
 
 #![forbid(unsafe_code)]
 
@@ -23,7 +23,7 @@ use std::process::ExitCode;
 
 use arguments::Command;
 use fault::Fault;
-use places::Lines;
+use places::Place;
 
 const HELP: &str = include_str!("help.txt");
 const VERSION: &str = concat!("notice ", env!("CARGO_PKG_VERSION"), "\n");
@@ -78,7 +78,7 @@ fn destination(label: &OsStr, file: &OsStr) -> Result<(), Fault> {
     let note = files::read(file)?;
     let found = library::resolve(&note, label.as_encoded_bytes())
         .map_err(|failure| refusal::fault(failure, file, &note))?;
-    let place = Lines::of(&note).place(found.start);
+    let place = Place::counted(&note, found.start);
     let shown = visible::destination(&String::from_utf8_lossy(&note[found]));
     let text = format!("{shown}, line {} (column {})\n", place.line, place.column);
     files::write(&[text.as_bytes()])

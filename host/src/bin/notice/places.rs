@@ -8,32 +8,22 @@ pub struct Place {
     pub column: usize,
 }
 
-/// A note cut into lines, each with the LF that ends it.
-pub struct Lines<'n> {
-    note: &'n [u8],
-    /// Where each line starts.
-    starts: Vec<usize>,
-}
-
-impl<'n> Lines<'n> {
-    pub fn of(note: &'n [u8]) -> Self {
-        let after_line_ends = note
-            .iter()
-            .enumerate()
-            .filter(|(_, byte)| **byte == b'\n')
-            .map(|(index, _)| index + 1);
-        let starts = std::iter::once(0).chain(after_line_ends).collect();
-        Lines { note, starts }
-    }
-
-    /// The line and column of a byte of the note, or of the note's end.
-    pub fn place(&self, byte: usize) -> Place {
-        let line = self.starts.partition_point(|start| *start <= byte);
-        let start = self.starts[line - 1];
+impl Place {
+    /// The place of a byte of the note, or of the note's end, whose line is known from a row.
+    pub fn on_line(line: usize, note: &[u8], byte: usize) -> Place {
+        let before = &note[..byte];
+        let last_line_end = before.iter().rposition(|byte| *byte == b'\n');
+        let line_start = last_line_end.map_or(0, |at| at + 1);
         Place {
             line,
-            column: 1 + characters(&self.note[start..byte]),
+            column: 1 + characters(&before[line_start..]),
         }
+    }
+
+    /// The same where no row says the line: it is counted too.
+    pub fn counted(note: &[u8], byte: usize) -> Place {
+        let line_ends = note[..byte].iter().filter(|byte| **byte == b'\n');
+        Place::on_line(1 + line_ends.count(), note, byte)
     }
 }
 
@@ -47,11 +37,17 @@ fn characters(bytes: &[u8]) -> usize {
 
 #[cfg(test)]
 mod tests {
-    use super::{Lines, Place};
+    use super::Place;
 
     fn place(note: &[u8], byte: usize) -> (usize, usize) {
-        let Place { line, column } = Lines::of(note).place(byte);
+        let Place { line, column } = Place::counted(note, byte);
         (line, column)
+    }
+
+    #[test]
+    fn a_rows_line_is_taken_as_it_is() {
+        let place = Place::on_line(14, b"ab\ncd", 4);
+        assert_eq!((place.line, place.column), (14, 2));
     }
 
     #[test]

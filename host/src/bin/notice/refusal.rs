@@ -5,7 +5,7 @@ use std::ffi::OsStr;
 use crate::fault::Fault;
 use crate::files;
 use crate::library::{Failure, Refusal};
-use crate::places::{Lines, Place};
+use crate::places::Place;
 
 /// "note longer than 32,768 bytes".
 const LONGEST_NOTE: u64 = 32_768;
@@ -55,7 +55,7 @@ fn words(refusal: Refusal, note: &[u8]) -> Option<(u8, Place, String)> {
 fn met(value: u64, note: &[u8]) -> Option<(u8, Place)> {
     let at = usize::try_from(value).ok()?;
     let byte = *note.get(at)?;
-    Some((byte, Lines::of(note).place(at)))
+    Some((byte, Place::counted(note, at)))
 }
 
 fn too_long(length: u64) -> String {

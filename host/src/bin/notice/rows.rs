@@ -2,16 +2,19 @@
 
 use std::ops::Range;
 
-/// "Definition row, six 32-bit numbers".
-pub const DEFINITION_WIDTH: usize = 6;
-/// "ten 32-bit numbers a row".
-pub const SPAN_WIDTH: usize = 10;
+/// "Definition row, six 32-bit numbers", and "one more number at its end", the line.
+pub const DEFINITION_WIDTH: usize = 7;
+/// "ten 32-bit numbers a row", and the line.
+pub const SPAN_WIDTH: usize = 11;
 
 /// A definition's parts, as places in the note.
+#[derive(Debug, PartialEq, Eq)]
 pub struct DefinitionRow {
     pub label: Range<usize>,
     pub destination: Range<usize>,
     pub title: Option<Range<usize>>,
+    /// "the line of the label's opening bracket".
+    pub line: usize,
 }
 
 /// "The five kinds of row have fixed numbers".
@@ -25,6 +28,7 @@ pub enum Kind {
 }
 
 /// A span's parts, as places in the note.
+#[derive(Debug, PartialEq, Eq)]
 pub struct SpanRow {
     pub kind: Kind,
     pub whole: Range<usize>,
@@ -33,6 +37,8 @@ pub struct SpanRow {
     pub definition: Option<usize>,
     pub destination: Option<Range<usize>>,
     pub title: Option<Range<usize>>,
+    /// The line "of the span's start".
+    pub line: usize,
 }
 
 impl Kind {
@@ -67,6 +73,7 @@ pub fn definitions(table: &[u32]) -> Vec<DefinitionRow> {
             label: range(row[0], row[1]),
             destination: range(row[2], row[3]),
             title: part(row[4], row[5]),
+            line: row[6] as usize,
         })
         .collect()
 }
@@ -84,6 +91,7 @@ fn span(row: &[u32]) -> Option<SpanRow> {
         definition: (row[5] != 0).then_some(row[5] as usize),
         destination: part(row[6], row[7]),
         title: part(row[8], row[9]),
+        line: row[10] as usize,
     })
 }
 
@@ -94,4 +102,49 @@ fn range(start: u32, end: u32) -> Range<usize> {
 /// "An absent part is 0, 0"; an empty one stands at its place, which is never the note's start.
 fn part(start: u32, end: u32) -> Option<Range<usize>> {
     (end != 0).then(|| range(start, end))
+}
+
+#[cfg(test)]
+mod tests {
+    use super::{definitions, spans, DefinitionRow, Kind, SpanRow};
+
+    /// The numbers of a row all differ, so that none can stand for another.
+    #[test]
+    fn every_number_has_its_name() {
+        let row = |line| DefinitionRow {
+            label: 11..12,
+            destination: 13..14,
+            title: Some(15..16),
+            line,
+        };
+        let table = [11, 12, 13, 14, 15, 16, 17, 11, 12, 13, 14, 15, 16, 18];
+        assert_eq!(definitions(&table), [row(17), row(18)]);
+        let row = |kind, line| SpanRow {
+            kind,
+            whole: 21..22,
+            text: 23..24,
+            definition: Some(25),
+            destination: Some(26..27),
+            title: Some(28..29),
+            line,
+        };
+        let table = [
+            [3, 21, 22, 23, 24, 25, 26, 27, 28, 29, 30],
+            [5, 21, 22, 23, 24, 25, 26, 27, 28, 29, 31],
+        ];
+        let rows = [row(Kind::Full, 30), row(Kind::Shortcut, 31)];
+        assert_eq!(spans(&table.concat()), Some(rows.into()));
+    }
+
+    #[test]
+    fn absent_parts() {
+        let row = &definitions(&[1, 2, 5, 6, 0, 0, 1])[0];
+        assert_eq!(row.title, None);
+        let row = &spans(&[1, 0, 3, 1, 2, 0, 0, 0, 0, 0, 1]).expect("a code span")[0];
+        assert_eq!(
+            (row.definition, &row.destination, &row.title),
+            (None, &None, &None)
+        );
+        assert_eq!(spans(&[6, 0, 3, 1, 2, 0, 0, 0, 0, 0, 1]), None);
+    }
 }

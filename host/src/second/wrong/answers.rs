@@ -9,6 +9,7 @@ impl Reader {
     pub(in super::super) fn rows_lent(self, numbers: usize, width: usize) -> usize {
         match self.wrong {
             Some(Wrong::PartRowsCount) => numbers.div_ceil(width),
+            Some(Wrong::LineTakesNoRoom) => numbers / (width - 1),
             _ => numbers / width,
         }
     }

@@ -1,10 +1,11 @@
-//! Wrong readings. A [`Reader`] reads as document 01 says, or misreads one rule in a way that a
+//! Wrong readings. A [`Reader`] reads as the documents say, or misreads one rule in a way that a
 //! person might: a [`Wrong`] is a switch, consulted where the rule stands. Where more than a yes or
 //! no is wanted, the rooms here answer: as the rule says, but for the wrong readings they name.
 
 mod answers;
 mod definitions;
 mod labels;
+mod lines;
 mod marking;
 mod page;
 mod rows;
@@ -20,7 +21,7 @@ pub struct Reader {
 }
 
 impl Reader {
-    /// The reader by document 01.
+    /// The reader by the documents.
     pub const RIGHT: Reader = Reader { wrong: None };
 
     /// The reader that misreads one rule.

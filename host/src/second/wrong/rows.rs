@@ -1,8 +1,13 @@
-//! Misreadings of rows.
+//! Misreadings of rows, but for their lines.
 
 use super::super::rows::{kind, DefinitionRow, SpanRow};
 use super::super::text::Text;
 use super::{Reader, Wrong};
+use std::ops::Range;
+
+/// Where a row has its destination and title, start and end of each.
+const DEFINITION_TARGET: Range<usize> = 2..6;
+const SPAN_TARGET: Range<usize> = 6..10;
 
 impl Reader {
     /// A definition row as it is.
@@ -10,7 +15,7 @@ impl Reader {
         match self.wrong {
             Some(Wrong::BracketsInLabelRow) => (row[0], row[1]) = (row[0] - 1, row[1] + 1),
             Some(Wrong::EndsInclusive) => row[1] -= 1,
-            _ => self.misread_target(&mut row[2..]),
+            _ => self.misread_target(&mut row[DEFINITION_TARGET]),
         }
         row
     }
@@ -39,8 +44,8 @@ impl Reader {
                 row[0] = kind::COLLAPSED + kind::SHORTCUT - kind;
             }
             (Some(Wrong::NumberFromZero), kind::FULL..) => row[5] -= 1,
-            (Some(Wrong::ReferenceWithoutTarget), kind::FULL..) => row[6..].fill(0),
-            _ => self.misread_target(&mut row[6..]),
+            (Some(Wrong::ReferenceWithoutTarget), kind::FULL..) => row[SPAN_TARGET].fill(0),
+            _ => self.misread_target(&mut row[SPAN_TARGET]),
         }
         row
     }

@@ -118,6 +118,8 @@ switches! {
     PageBeforeSpans,
     /// A part of a row counts as a row.
     PartRowsCount,
+    /// Whole rows are counted without their line.
+    LineTakesNoRoom,
     /// The value is what is missing, not what is needed.
     ValueIsMissing,
     LengthIsValue,
@@ -268,6 +270,30 @@ switches! {
     EmptyDestinationAbsent,
     /// An absent title is empty, at the destination's end.
     AbsentTitleAtEnd,
+
+    // Lines.
+    /// A line is the LFs before it, and no more.
+    LinesFromZero,
+    /// Other characters end a line too.
+    OtherLineEnds,
+    BlankLinesUncounted,
+    /// An LF inside an earlier definition does not count.
+    DefinitionLinesUncounted,
+    /// An LF inside an earlier code span of the paragraph does not count.
+    CodeLinesUncounted,
+    /// An LF inside an earlier tail of the paragraph does not count.
+    TailLinesUncounted,
+    LinesFromParagraph,
+    /// A span's line is that of its end.
+    LineOfSpanEnd,
+    /// A definition's line is that of its destination.
+    LineOfDestination,
+    /// A link's line is that of its destination.
+    LineOfTarget,
+    /// A link's line is that of its paragraph's first opening bracket.
+    LineOfFirstBracket,
+    /// A link's line is that of the last opening bracket before its closing one.
+    LineOfLastBracket,
 
     // The page.
     NoLineFeedAfterParagraph,
