@@ -2,36 +2,46 @@
  * notice.h: reads hospital notices written in Markdown. C99 and C++.
  *
  * A notice ("the note") is at most NOTICE_LIMIT bytes of UTF-8 text with LF line ends, without byte 0 and byte 13 (CR). It need
- * not end in a byte 0. Three entries read it, and one compares labels:
+ * not end in a byte 0. Beside it a second text under the same limits is lent, the sheet: link reference definitions that many
+ * notes share. Three entries read the two, and one compares labels:
  *
- *   notice_read         finds its link reference definitions, its links and its code spans
- *   notice_render       does the same and writes its page, the HTML of its paragraphs
- *   notice_resolve      finds the destination that it gives to a label
+ *   notice_read         finds the definitions of both texts, and the note's links and code spans
+ *   notice_render       does the same and writes the page, the HTML of the note's paragraphs
+ *   notice_resolve      finds the destination that the two give to a label
  *   notice_same_label   says whether two labels are equal
+ *
+ * The definitions of both are one list: the note's in the order of the note, then the sheet's in the order of the sheet. A label
+ * means the first definition in that list with an equal label, so that one in the note comes before any in the sheet. Nothing else
+ * of the sheet counts: its own paragraphs are ignored. Each text is read by itself; no definition starts in the one and goes on in
+ * the other.
+ *
+ * The sheet may be empty, that is, of length 0. Then the answers are those of the note alone, each definition row behind a
+ * leading 0, and the text they name is NOTICE_NOTE.
  *
  * Labels are equal if their bytes agree after A to Z became a to z, spaces, tabs and LFs at both ends were dropped, and each run of
  * them inside became one space. Backslashes are kept.
  *
- * Places are counted in bytes from the note's start, from 0. A part of the note is given by two places: its start, and its end,
- * which is the place of the first byte after it. A part that is absent is 0, 0. The line of a place is one more than the LFs before
- * it in the note, so that lines count from 1.
+ * Places are counted in bytes from the start of the text in which they lie, from 0. A part of a text is given by two places: its
+ * start, and its end, which is the place of the first byte after it. A part that is absent is 0, 0. The line of a place is one more
+ * than the LFs before it in its own text, so that lines count from 1 in each. A text is named by a number, NOTICE_NOTE or
+ * NOTICE_SHEET.
  *
  *
  * Memory
  *
  * A buffer is lent for the call only; nothing of it is kept. It is given by a pointer and a length. The length of a note, a
- * label or a page counts bytes; the length of a table counts 32-bit numbers, not rows.
+ * sheet, a label or a page counts bytes; the length of a table counts 32-bit numbers, not rows.
  *
  * - The pointer is valid for the whole length, and aligned for its type. The memory has been written before the call; with
  *   what does not matter.
  * - Where the length is 0, nothing is read or written through the pointer, and it may be NULL.
  * - `answer` is never NULL: it points to as many numbers as the declaration says. All of them are stored by every call.
- * - A buffer that the call may write to shares no byte with any other buffer of the call. Notes and labels are only read; they may
- *   overlap.
+ * - A buffer that the call may write to shares no byte with any other buffer of the call. Notes, sheets and labels are only read:
+ *   they may overlap, and may be one and the same memory.
  * - Until the call returns nothing else writes to any of the buffers, and nothing else reads those that the call may write to.
  *
- * Nothing else is asked of the caller: every note, every label and every length has an answer, and every call ends. What the
- * tables and the page buffer hold before the call does not matter.
+ * Nothing else is asked of the caller: every note, every sheet, every label and every length has an answer, and every call ends.
+ * What the tables and the page buffer hold before the call does not matter.
  *
  * The library has no state, allocates no memory and calls nothing but memset and memcpy. Any number of threads may call it at
  * once, each with buffers of its own.
@@ -39,19 +49,21 @@
  *
  * Cost
  *
- * Stack: a call takes less than 48 KiB for itself, whatever the note (46,304 bytes at most, 384 for notice_resolve, 88 for
- * notice_same_label). It was measured on the notes of the benchmark by running each entry on a stack that was marked before; the
- * library's tests do so again.
+ * Stack: a call takes less than 48 KiB for itself, whatever the texts (46,304 bytes at most, 384 for notice_resolve, 88 for
+ * notice_same_label). It was measured on the notes of the benchmark, beside their sheets and as their own sheets, by running each
+ * entry on a stack that was marked before; the library's tests do so again.
  *
- * Time: but for one thing, reading costs what the note's length costs, and the page its own length besides. It was measured on a
- * virtual core of an AMD EPYC (x86-64), with 222,913 notes of the longest size, made of short words to be slow: repeated, one after
- * the other, around a text as deep as brackets may go, and in rising runs. The slowest took 50 ns a byte, 1.6 ms, and the slowest
- * enquiry, for a label of 990 blanks, 41 ns a byte of the note. The search counts 150 ns a byte, 5 ms for the longest note, as the
- * most that a call may take.
+ * Time: but for one thing, reading costs what the lengths of the note and the sheet cost, and the page its own length besides. It was
+ * measured on a virtual core of an AMD EPYC (x86-64), with 222,913 notes of the longest size beside an empty sheet, made of short
+ * words to be slow: repeated, one after the other, around a text as deep as brackets may go, and in rising runs. The slowest took 50
+ * ns a byte, 1.6 ms, and the slowest enquiry, for a label of 990 blanks, 41 ns a byte of the note. The search counts 150 ns a byte, 5
+ * ms for the longest note, as the most that a call may take.
  *
- * What costs more is lookup, since each reference is looked up among the definitions one by one. 500 definitions and as many references
- * to them as fit took 9 ms; of notes made to be slow, some 1,600 definitions and 1,500 references whose labels differ only at their
- * ends, and in the case of their letters, took 66 ms on one machine and up to 240 ms on a slower one, the longest that was found.
+ * What costs more is lookup, since each reference is looked up among the definitions of both texts one by one. 500 definitions and as
+ * many references to them as fit took 9 ms; of notes made to be slow, some 1,600 definitions and 1,500 references whose labels differ
+ * only at their ends, and in the case of their letters, took 66 ms on one machine and up to 240 ms on a slower one, the longest that
+ * was found for a note alone. A note of references beside a sheet of definitions has room for twice as many of each, and takes four
+ * times as long.
  *
  * A comparison of two labels costs what they have in common: labels of 999 characters took 5 to 8 ns where they differ in the first,
  * and 0.5 to 3.2 us where they are equal.
@@ -60,15 +72,21 @@
  * Answers
  *
  * Each entry that reads a note returns the number of its answer, 0 or that of a refusal, and stores the numbers that go with it in
- * `answer`. On a refusal answer[0] is the value in this table and the other numbers are 0. The first refusal that applies is the
- * answer, in the order 1, 2, 3, 4, 5, 6; notice_resolve has the order 1, 2, 8, 7. notice_same_label refuses nothing.
+ * `answer`. On a refusal answer[0] is the value in this table. The last number of `answer` is the text that the answer names: the
+ * one that a refusal 1 or 2 is about, the one where a destination lies that notice_resolve found, and NOTICE_NOTE for every other
+ * answer. The other numbers are 0 on a refusal.
+ *
+ * The first refusal that applies is the answer: 1 of the note, 2 of the note, 1 of the sheet, 2 of the sheet, and then 3, 4, 5, 6 in
+ * this order; notice_resolve has 8 and then 7 after those of the two texts. notice_same_label refuses nothing.
  *
  *   number  returned by    exactly when                                                value
  *   0       all            none of the others applies                                  see the entry
- *   1       all            the note is longer than NOTICE_LIMIT bytes                  its length
- *   2       all            the note has byte 0 or 13, or ill-formed UTF-8              where the first bad character starts
- *   3       read, render   fewer whole definition rows are lent than definitions       rows needed
- *   4       read, render   some paragraph has over NOTICE_DEPTH brackets open at once  place of the first bracket too many
+ *   1       all            the text is longer than NOTICE_LIMIT bytes                  its length
+ *   2       all            the text has byte 0 or 13, or ill-formed UTF-8              where the first bad character starts in it
+ *   3       read, render   fewer whole definition rows are lent than both texts have   rows needed, for both
+ *                          definitions
+ *   4       read, render   some paragraph of the note has over NOTICE_DEPTH brackets   place of the first bracket too many
+ *                          open at once
  *   5       read, render   fewer whole span rows are lent than spans                   rows needed
  *   6       render         the page buffer is shorter than the HTML                    bytes needed
  *   7       resolve        no definition has an equal label                            0
@@ -85,9 +103,13 @@
 extern "C" {
 #endif
 
-/* The most bytes that a note may have, and the most brackets that may be open at once in a paragraph. */
+/* The most bytes that a note may have, and a sheet; and the most brackets that may be open at once in a paragraph. */
 #define NOTICE_LIMIT 32768
 #define NOTICE_DEPTH 1024
+
+/* The numbers of the two texts. */
+#define NOTICE_NOTE 0
+#define NOTICE_SHEET 1
 
 /* The numbers of an answer. */
 #define NOTICE_OK 0
@@ -101,26 +123,30 @@ extern "C" {
 #define NOTICE_NO_LABEL 8
 
 /*
- * A definition row is seven numbers. Definition k, counted from 1, is the row at definitions + (k - 1) * NOTICE_DEFINITION_WIDTH.
- * All definitions stand there in the order of the note, repeats too. The label is without its brackets, the destination and
- * the title without their delimiters. NOTICE_DEFINITION_LINE is the line of the label's opening bracket.
+ * A definition row is eight numbers. Definition k, counted from 1, is the row at definitions + (k - 1) * NOTICE_DEFINITION_WIDTH.
+ * All definitions stand there, the note's and then the sheet's, each in the order of its text, repeats too. NOTICE_DEFINITION_TEXT
+ * is the text where the definition stands, NOTICE_NOTE or NOTICE_SHEET: the places and the line of the row lie in that text. The
+ * label is without its brackets, the destination and the title without their delimiters. NOTICE_DEFINITION_LINE is the line of the
+ * label's opening bracket.
  */
-#define NOTICE_DEFINITION_WIDTH 7
+#define NOTICE_DEFINITION_WIDTH 8
 
-#define NOTICE_DEFINITION_LABEL_START 0
-#define NOTICE_DEFINITION_LABEL_END 1
-#define NOTICE_DEFINITION_DESTINATION_START 2
-#define NOTICE_DEFINITION_DESTINATION_END 3
-#define NOTICE_DEFINITION_TITLE_START 4
-#define NOTICE_DEFINITION_TITLE_END 5
-#define NOTICE_DEFINITION_LINE 6
+#define NOTICE_DEFINITION_TEXT 0
+#define NOTICE_DEFINITION_LABEL_START 1
+#define NOTICE_DEFINITION_LABEL_END 2
+#define NOTICE_DEFINITION_DESTINATION_START 3
+#define NOTICE_DEFINITION_DESTINATION_END 4
+#define NOTICE_DEFINITION_TITLE_START 5
+#define NOTICE_DEFINITION_TITLE_END 6
+#define NOTICE_DEFINITION_LINE 7
 
 /*
- * A span row is eleven numbers. The rows stand in increasing order of NOTICE_SPAN_END. A span runs from its opening bracket or
- * backtick to the end of its tail or closing backticks. The text of a link lies between its two brackets, that of a code span
- * between the backtick strings. NOTICE_SPAN_DEFINITION is the number of the definition that a reference uses, from 1; 0 for a
- * code span and an inline link. The destination and the title of a reference are those of that definition. NOTICE_SPAN_LINE is the
- * line of the span's start.
+ * A span row is eleven numbers. The rows stand in increasing order of NOTICE_SPAN_END. Spans are the note's: their places and lines
+ * lie in it. A span runs from its opening bracket or backtick to the end of its tail or closing backticks. The text of a link lies
+ * between its two brackets, that of a code span between the backtick strings. NOTICE_SPAN_DEFINITION is the number of the definition
+ * that a reference uses, from 1, as its row counts; 0 for a code span and an inline link. The destination and the title of a
+ * reference are those of that definition, and their places lie in the text that its row names; those of an inline link lie in the
+ * note. NOTICE_SPAN_LINE is the line of the span's start.
  */
 #define NOTICE_SPAN_WIDTH 11
 
@@ -144,30 +170,32 @@ extern "C" {
 #define NOTICE_SHORTCUT 5
 
 /*
- * Reads the note and fills the two tables, or refuses.
+ * Reads the note and the sheet and fills the two tables, or refuses.
  *
  * answer[0]  on success 0; on a refusal the value in the table above
- * answer[1]  on success the count of definitions, else 0
+ * answer[1]  on success the count of definitions in both texts, else 0
  * answer[2]  on success the count of spans, else 0
+ * answer[3]  after 1 and 2 the text that is refused, else NOTICE_NOTE
  *
  *   after    the definition table                    the span table
  *   0        its rows, the rest as before the call   its rows, the rest as before the call
  *   1, 2, 3  as before the call                      as before the call
  *   4, 5     its rows, the rest as before the call   as before the call
  *
- * To learn how many rows a note needs, lend none: answer 3 tells the definition rows, and with these lent answer 5 tells the
- * span rows.
+ * To learn how many rows a note and a sheet need, lend none: answer 3 tells the definition rows, and with these lent answer 5 tells
+ * the span rows.
  */
-uint32_t notice_read(const uint8_t *note, size_t note_len, uint32_t *definitions, size_t definitions_len, uint32_t *spans,
-                     size_t spans_len, uint64_t answer[3]);
+uint32_t notice_read(const uint8_t *note, size_t note_len, const uint8_t *sheet, size_t sheet_len, uint32_t *definitions,
+                     size_t definitions_len, uint32_t *spans, size_t spans_len, uint64_t answer[4]);
 
 /*
- * Reads the note, fills the two tables and writes the page, or refuses.
+ * Reads the note and the sheet, fills the two tables and writes the note's page, or refuses.
  *
  * answer[0]  on success 0; on a refusal the value in the table above
- * answer[1]  on success the count of definitions, else 0
+ * answer[1]  on success the count of definitions in both texts, else 0
  * answer[2]  on success the count of spans, else 0
  * answer[3]  on success the length of the HTML, else 0
+ * answer[4]  after 1 and 2 the text that is refused, else NOTICE_NOTE
  *
  *   after    the definition table                    the span table                          the page buffer
  *   0        its rows, the rest as before the call   its rows, the rest as before the call   the HTML, the rest as before the call
@@ -177,28 +205,31 @@ uint32_t notice_read(const uint8_t *note, size_t note_len, uint32_t *definitions
  *
  * No byte 0 is written after the HTML. To learn how long the page is, lend a page buffer of length 0: answer 6 tells it.
  */
-uint32_t notice_render(const uint8_t *note, size_t note_len, uint32_t *definitions, size_t definitions_len, uint32_t *spans,
-                       size_t spans_len, uint8_t *page, size_t page_len, uint64_t answer[4]);
+uint32_t notice_render(const uint8_t *note, size_t note_len, const uint8_t *sheet, size_t sheet_len, uint32_t *definitions,
+                       size_t definitions_len, uint32_t *spans, size_t spans_len, uint8_t *page, size_t page_len,
+                       uint64_t answer[5]);
 
 /*
- * Finds the destination that the note gives to a label: that of its first definition with an equal label. The label is given
- * without its brackets.
+ * Finds the destination that the note or, where it has none, the sheet gives to a label: that of the first definition with an equal
+ * label, the note's before the sheet's. The label is given without its brackets.
  *
  * answer[0]  on success the destination's start; on a refusal the value in the table above
  * answer[1]  on success the destination's start, else 0
  * answer[2]  on success the destination's end, else 0
+ * answer[3]  on success the text in which the destination lies; after 1 and 2 the text that is refused; else NOTICE_NOTE
  *
- * The destination is the part of the note from answer[1] to answer[2], as it stands there, backslashes kept. It may be empty.
- * Only the number that is returned tells an empty destination from a refusal.
+ * The destination is the part of that text from answer[1] to answer[2], as it stands there, backslashes kept. It may be empty. Only
+ * the number that is returned tells an empty destination from a refusal.
  */
-uint32_t notice_resolve(const uint8_t *note, size_t note_len, const uint8_t *label, size_t label_len, uint64_t answer[3]);
+uint32_t notice_resolve(const uint8_t *note, size_t note_len, const uint8_t *sheet, size_t sheet_len, const uint8_t *label,
+                        size_t label_len, uint64_t answer[4]);
 
 /*
  * Compares two labels, each given without its brackets: returns 1 if they are equal, else 0.
  *
  * Any bytes of any length are compared, those too that are no label: spaces, tabs and LFs alone are equal to each other and to an
- * empty label. Equal labels that notice_resolve does not refuse with NOTICE_NO_LABEL get one answer from it, in every note. The bytes
- * are read in step, up to the first difference, and nothing is copied.
+ * empty label. Equal labels that notice_resolve does not refuse with NOTICE_NO_LABEL get one answer from it, in every note with every
+ * sheet. The bytes are read in step, up to the first difference, and nothing is copied.
  */
 uint32_t notice_same_label(const uint8_t *a, size_t a_len, const uint8_t *b, size_t b_len);
 

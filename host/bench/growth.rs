@@ -1,4 +1,5 @@
-//! How the time grows with the note: each note at a quarter, at half and at the whole of the longest size.
+//! How the time grows with the note: each note, with its sheet, at a quarter, at half and at the whole of
+//! the longest size.
 
 use std::process::ExitCode;
 
@@ -11,8 +12,8 @@ use crate::ROUNDS;
 
 /// What a note of twice the size may take, in times of the other.
 const MOST: f64 = 2.2;
-/// Its time grows with the definitions as well.
-const EXCEPTED: &str = "references";
+/// Their times grow with the definitions as well.
+const EXCEPTED: [&str; 2] = ["references", "references_sheet"];
 /// How often the times of a note are taken at most.
 const MOST_TRIES: usize = 8;
 const SIZES: [usize; 3] = [LONGEST_NOTE / 4, LONGEST_NOTE / 2, LONGEST_NOTE];
@@ -30,7 +31,8 @@ pub fn run(chosen: impl Fn(&BenchNote) -> bool) -> ExitCode {
             let grown = growth(sizes);
             let cells = grown.map(|times| format!("{times:.2}"));
             println!("| {} | {} |", sizes[0].name, cells.join(" | "));
-            good &= sizes[0].name == EXCEPTED || grown.iter().all(|times| *times <= MOST);
+            let excepted = EXCEPTED.contains(&sizes[0].name);
+            good &= excepted || grown.iter().all(|times| *times <= MOST);
         }
     }
     if good {
@@ -42,7 +44,7 @@ pub fn run(chosen: impl Fn(&BenchNote) -> bool) -> ExitCode {
 
 /// The reader's two steps, and the page writer's.
 fn growth(notes: [&BenchNote; 3]) -> [f64; 4] {
-    let lent = notes.map(|note| Lent::for_note(&note.bytes));
+    let lent = notes.map(Lent::for_note);
     let reader = best_of_tries(|| times(notes, lent.clone(), Lent::read));
     let page_writer = best_of_tries(|| times(notes, lent.clone(), Lent::render));
     let [first, second] = steps(reader);
@@ -72,13 +74,13 @@ fn best_of_tries(measure: impl Fn() -> [f64; 3]) -> [f64; 3] {
 fn times<T>(
     notes: [&BenchNote; 3],
     lent: [Lent; 3],
-    call: impl Fn(&mut Lent, &[u8]) -> T,
+    call: impl Fn(&mut Lent, &BenchNote) -> T,
 ) -> [f64; 3] {
     let [mut first, mut second, mut third] = lent;
     let mut candidates = [
-        Some(Candidate::new(|| call(&mut first, &notes[0].bytes))),
-        Some(Candidate::new(|| call(&mut second, &notes[1].bytes))),
-        Some(Candidate::new(|| call(&mut third, &notes[2].bytes))),
+        Some(Candidate::new(|| call(&mut first, notes[0]))),
+        Some(Candidate::new(|| call(&mut second, notes[1]))),
+        Some(Candidate::new(|| call(&mut third, notes[2]))),
     ];
     best_times(&mut candidates, ROUNDS).map(|time| time.unwrap_or(f64::INFINITY))
 }

@@ -54,8 +54,8 @@ fn main() -> ExitCode {
     table::print_libraries(cmark_gfm.is_some(), md4c.is_some());
     table::print_head();
     for note in &notes {
-        let mut lent = Lent::for_note(&note.bytes);
-        if let Err(what) = lent.check(&note.bytes) {
+        let mut lent = Lent::for_note(note);
+        if let Err(what) = lent.check(note) {
             eprintln!("bench: {}: {what}", note.name);
             return ExitCode::FAILURE;
         }
@@ -71,20 +71,20 @@ fn time(
     cmark_gfm: Option<&CmarkGfm>,
     md4c: Option<&Md4c>,
 ) -> Line {
-    let bytes = &note.bytes;
+    let one_text = &ours::in_one_text(note);
     let answer = lent.answer();
     let mut for_reader = lent.clone();
     let mut candidates = [
-        Some(Candidate::new(|| for_reader.read(bytes))),
-        Some(Candidate::new(|| lent.render(bytes))),
-        Some(Candidate::new(|| ours::second(bytes))),
-        cmark_gfm.map(|library| Candidate::new(|| library.page(bytes))),
-        md4c.map(|library| Candidate::new(|| library.page(bytes))),
+        Some(Candidate::new(|| for_reader.read(note))),
+        Some(Candidate::new(|| lent.render(note))),
+        Some(Candidate::new(|| ours::second(note))),
+        cmark_gfm.map(|library| Candidate::new(|| library.page(one_text))),
+        md4c.map(|library| Candidate::new(|| library.page(one_text))),
     ];
     let [reader, page_writer, second, cmark_gfm, md4c] = best_times(&mut candidates, ROUNDS);
     Line {
         name: note.name,
-        bytes: bytes.len(),
+        bytes: note.bytes.len() + note.sheet.len(),
         answer,
         reader,
         page_writer,

@@ -1,11 +1,12 @@
 //! The proved entries and the second reader, as the benchmark calls them.
 
 use host::entries;
+use host::generate::bench_notes::BenchNote;
 use host::second::{self, RenderAnswer};
 use std::hint::black_box;
 
-/// Tables and a page of just the size that a note needs. They are lent once and used again by every
-/// call, with what the call before left in them: an entry trusts nothing in them.
+/// Tables and a page of just the size that a note and its sheet need. They are lent once and used again
+/// by every call, with what the call before left in them: an entry trusts nothing in them.
 #[derive(Clone)]
 pub struct Lent {
     definitions: Vec<u32>,
@@ -15,8 +16,8 @@ pub struct Lent {
 }
 
 impl Lent {
-    pub fn for_note(note: &[u8]) -> Lent {
-        let wanted = second::render(note, usize::MAX, usize::MAX, usize::MAX);
+    pub fn for_note(note: &BenchNote) -> Lent {
+        let wanted = second(note);
         let definitions = wanted.definition_rows.as_ref().map_or(0, Vec::len);
         Lent {
             definitions: vec![0; definitions * second::DEFINITION_ROW_WIDTH],
@@ -32,29 +33,43 @@ impl Lent {
     }
 
     /// Whether the library answers as the second reader does: other figures would mean nothing.
-    pub fn check(&mut self, note: &[u8]) -> Result<(), String> {
-        let read = entries::read(note, &mut self.definitions, &mut self.spans);
-        let spans_read = self.spans.clone();
+    pub fn check(&mut self, note: &BenchNote) -> Result<(), String> {
+        let read = self.read(note);
+        self.check_rows()?;
         let rendered = self.render(note);
+        self.check_rows()?;
         let wanted = &self.wanted;
-        let rows = wanted.span_rows.clone().unwrap_or_default().concat();
-        let page = wanted.page.as_deref().unwrap_or_default();
         if read.number != wanted.number || rendered.number != wanted.number {
             return Err(format!("{read:?}, {rendered:?}, wanted {}", wanted.number));
         }
-        if spans_read != rows || self.spans != rows || self.page != page {
-            return Err("rows or page differ from the second reader's".to_string());
+        if self.page != wanted.page.as_deref().unwrap_or_default() {
+            return Err("the page differs from the second reader's".to_string());
         }
         Ok(())
     }
 
-    pub fn read(&mut self, note: &[u8]) -> entries::Reading {
-        entries::read(black_box(note), &mut self.definitions, &mut self.spans)
+    fn check_rows(&self) -> Result<(), String> {
+        let definitions = self.wanted.definition_rows.clone().unwrap_or_default();
+        let spans = self.wanted.span_rows.clone().unwrap_or_default();
+        if self.definitions != definitions.concat() || self.spans != spans.concat() {
+            return Err("rows differ from the second reader's".to_string());
+        }
+        Ok(())
     }
 
-    pub fn render(&mut self, note: &[u8]) -> entries::Rendering {
+    pub fn read(&mut self, note: &BenchNote) -> entries::Reading {
+        entries::read(
+            black_box(&note.bytes),
+            black_box(&note.sheet),
+            &mut self.definitions,
+            &mut self.spans,
+        )
+    }
+
+    pub fn render(&mut self, note: &BenchNote) -> entries::Rendering {
         entries::render(
-            black_box(note),
+            black_box(&note.bytes),
+            black_box(&note.sheet),
             &mut self.definitions,
             &mut self.spans,
             &mut self.page,
@@ -63,6 +78,20 @@ impl Lent {
 }
 
 /// The second reader, rows and page.
-pub fn second(note: &[u8]) -> RenderAnswer {
-    second::render(black_box(note), usize::MAX, usize::MAX, usize::MAX)
+pub fn second(note: &BenchNote) -> RenderAnswer {
+    second::render(
+        black_box(&note.bytes),
+        black_box(&note.sheet),
+        usize::MAX,
+        usize::MAX,
+        usize::MAX,
+    )
+}
+
+/// One text for a library that knows no sheet: the note, and the sheet after a blank line.
+pub fn in_one_text(note: &BenchNote) -> Vec<u8> {
+    if note.sheet.is_empty() {
+        return note.bytes.clone();
+    }
+    [&note.bytes[..], b"\n\n", &note.sheet].concat()
 }

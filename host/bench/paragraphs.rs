@@ -3,6 +3,7 @@
 
 use std::process::ExitCode;
 
+use host::generate::bench_notes::BenchNote;
 use host::second::LONGEST_NOTE;
 
 use crate::measure::{best_times, Candidate};
@@ -32,7 +33,11 @@ pub fn run() -> ExitCode {
 /// The reader's time for each of the words, in a note of as many as fit.
 fn times() -> [f64; 2] {
     let counts = WORDS.map(|word| LONGEST_NOTE / word.len());
-    let notes = [0, 1].map(|place| WORDS[place].repeat(counts[place]));
+    let notes = [0, 1].map(|place| BenchNote {
+        name: "paragraphs",
+        bytes: WORDS[place].repeat(counts[place]),
+        sheet: Vec::new(),
+    });
     let [mut first, mut second] = [0, 1].map(|place| Lent::for_note(&notes[place]));
     let mut candidates = [
         Some(Candidate::new(|| first.read(&notes[0]))),

@@ -1,19 +1,39 @@
-//! The notes that are tried: words, put together in a few ways up to the longest note.
+//! The texts that are tried: words, put together in a few ways up to the longest note or sheet.
 
 use host::second::{LONGEST_NOTE, MOST_BRACKETS_OPEN};
 
-/// A note, and how it is made.
+/// A note and a sheet, one of them empty, and how the other is made.
 pub struct Shape {
     pub name: String,
     pub note: Vec<u8>,
+    pub sheet: Vec<u8>,
+}
+
+impl Shape {
+    fn of_note(name: String, note: Vec<u8>) -> Shape {
+        let sheet = Vec::new();
+        Shape { name, note, sheet }
+    }
+
+    /// The same text as a sheet.
+    pub fn in_sheet(self) -> Shape {
+        Shape {
+            name: format!("sheet of {}", self.name),
+            note: self.sheet,
+            sheet: self.note,
+        }
+    }
 }
 
 /// A word over and over.
 pub fn repeated(word: &[u8]) -> Shape {
-    Shape {
-        name: show(word),
-        note: word.repeat(LONGEST_NOTE / word.len()),
-    }
+    let note = word.repeat(LONGEST_NOTE / word.len());
+    Shape::of_note(show(word), note)
+}
+
+/// A definition over and over, of which two words are parts.
+pub fn definitions(label: &[u8], rest: &[u8]) -> Shape {
+    repeated(&[b"[", label, b"]:", rest, b"\n"].concat())
 }
 
 /// A word as often as brackets may be open, a second one over so many bytes, a third one as often as the
@@ -27,24 +47,20 @@ pub fn around(open: &[u8], middle: &[u8], bytes: usize, close: &[u8]) -> Shape {
         close.repeat(deep),
     ]
     .concat();
-    Shape {
-        name: format!(
-            "{} around {bytes} of {}, {}",
-            show(open),
-            show(middle),
-            show(close)
-        ),
-        note: unit.repeat(LONGEST_NOTE / unit.len()),
-    }
+    let name = format!(
+        "{} around {bytes} of {}, {}",
+        show(open),
+        show(middle),
+        show(close)
+    );
+    Shape::of_note(name, unit.repeat(LONGEST_NOTE / unit.len()))
 }
 
 /// Two words, each over half of the note.
 pub fn halves(first: &[u8], second: &[u8]) -> Shape {
     let half = |word: &[u8]| word.repeat(LONGEST_NOTE / 2 / word.len());
-    Shape {
-        name: format!("{}, then {}", show(first), show(second)),
-        note: [half(first), half(second)].concat(),
-    }
+    let name = format!("{}, then {}", show(first), show(second));
+    Shape::of_note(name, [half(first), half(second)].concat())
 }
 
 /// A byte so many times, then once more than that, and so on, with a word after each run.
@@ -57,10 +73,8 @@ pub fn rising(byte: u8, least: usize, word: &[u8]) -> Shape {
         note.resize(note.len() + count, byte);
         note.extend_from_slice(word);
     }
-    Shape {
-        name: format!("{} rising from {least}, with {}", show(&[byte]), show(word)),
-        note,
-    }
+    let name = format!("{} rising from {least}, with {}", show(&[byte]), show(word));
+    Shape::of_note(name, note)
 }
 
 /// A word as the table shows it.

@@ -1,6 +1,6 @@
-//! Looks for slow notes: short words, put together in a few ways up to the longest note, through the
-//! proved reader and page writer, and labels that are hard to compare through the enquiry. Prints the
-//! slowest and fails where one takes longer than a note may. `docs/BENCHMARK.md` says what is measured.
+//! Looks for slow notes and sheets: short words, put together in a few ways up to the longest, through
+//! the proved reader and page writer, and labels that are hard to compare through the enquiry. Prints the
+//! slowest and fails where one takes longer than it may. `docs/BENCHMARK.md` says what is measured.
 //!
 //! `cargo run --release --offline --manifest-path host/Cargo.toml --bin slow_notes [SECONDS]`
 
@@ -15,12 +15,12 @@ use std::time::{Duration, Instant};
 use host::entries;
 use host::second::{DEFINITION_ROW_WIDTH, LONGEST_NOTE, SPAN_ROW_WIDTH};
 use patterns::Patterns;
-use shapes::{around, halves, repeated, rising, Shape};
+use shapes::{around, definitions, halves, repeated, rising, Shape};
 use slowest::{Slow, Slowest};
 
-/// What a note may take at most, in nanoseconds a byte: 5 ms for the longest one.
+/// What a note or a sheet may take at most, in nanoseconds a byte: 5 ms for the longest one.
 const MOST: f64 = 150.0;
-/// A note that takes longer than this is timed again, and its best time counts.
+/// One that takes longer than this is timed again, and its best time counts.
 const SUSPECT: f64 = 50.0;
 const MORE_TRIES: usize = 4;
 /// How long the search may take by itself.
@@ -48,15 +48,16 @@ fn main() -> ExitCode {
     let mut lent = Lent::for_any_note();
     let mut slowest = Slowest::default();
     let mut tried = 0;
-    for shape in in_one_word().chain(in_two_words()).chain(rising_runs()) {
+    let notes = in_one_word().chain(in_two_words()).chain(rising_runs());
+    for shape in notes.chain(sheets()) {
         if Instant::now() > end {
-            println!("{tried} notes in {seconds} seconds: not all");
+            println!("{tried} notes and sheets in {seconds} seconds: not all");
             return ExitCode::FAILURE;
         }
         slowest.note(lent.time(shape));
         tried += 1;
     }
-    println!("All {tried} notes. The ten slowest, in nanoseconds a byte:\n");
+    println!("All {tried} notes and sheets. The ten slowest, in nanoseconds a byte:\n");
     slowest.print();
     let Some((enquiry, asked)) = enquiries::slowest(end) else {
         println!("\nNot all enquiries in {seconds} seconds");
@@ -96,6 +97,14 @@ fn rising_runs() -> impl Iterator<Item = Shape> {
     })
 }
 
+/// Sheets beside an empty note: every short pattern over and over, and definitions of two words.
+fn sheets() -> impl Iterator<Item = Shape> {
+    let patterns = Patterns::new(MARKS, 4).map(|pattern| repeated(&pattern));
+    let pairs = patterns::pairs(MARKS, 2);
+    let definitions = pairs.map(|(label, rest)| definitions(&label, &rest));
+    patterns.chain(definitions).map(Shape::in_sheet)
+}
+
 /// Tables for any note, and no page: the page writer measures the page and does not write it.
 struct Lent {
     definitions: Vec<u32>,
@@ -112,14 +121,14 @@ impl Lent {
         }
     }
 
-    /// The best times for a note.
+    /// The best times for a note and a sheet.
     fn time(&mut self, shape: Shape) -> Slow {
-        let mut best = self.once(&shape.note);
+        let mut best = self.once(&shape);
         for _ in 0..MORE_TRIES {
             if best.0.max(best.1) < SUSPECT {
                 break;
             }
-            let again = self.once(&shape.note);
+            let again = self.once(&shape);
             best = (best.0.min(again.0), best.1.min(again.1));
         }
         Slow {
@@ -130,13 +139,16 @@ impl Lent {
     }
 
     /// One call of the reader and one of the page writer.
-    fn once(&mut self, note: &[u8]) -> (f64, f64) {
+    fn once(&mut self, shape: &Shape) -> (f64, f64) {
+        let Shape { note, sheet, .. } = shape;
+        let Lent { definitions, spans } = self;
         let start = Instant::now();
-        entries::read(note, &mut self.definitions, &mut self.spans);
+        entries::read(note, sheet, definitions, spans);
         let middle = Instant::now();
-        entries::render(note, &mut self.definitions, &mut self.spans, &mut []);
+        entries::render(note, sheet, definitions, spans, &mut []);
         let end = Instant::now();
-        let per_byte = |time: Duration| time.as_nanos() as f64 / note.len() as f64;
+        let bytes = (note.len() + sheet.len()) as f64;
+        let per_byte = |time: Duration| time.as_nanos() as f64 / bytes;
         (per_byte(middle - start), per_byte(end - middle))
     }
 }

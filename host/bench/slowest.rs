@@ -1,6 +1,6 @@
-//! The slowest notes so far.
+//! The slowest notes and sheets so far.
 
-/// How a note is made, and its times, in nanoseconds a byte.
+/// How a note or a sheet is made, and its times, in nanoseconds a byte.
 pub struct Slow {
     pub name: String,
     pub reader: f64,
@@ -35,7 +35,7 @@ impl Slowest {
     }
 
     pub fn print(&self) {
-        println!("| note | reader | page writer |");
+        println!("| note or sheet | reader | page writer |");
         println!("|---|--:|--:|");
         for slow in &self.list {
             println!(

@@ -3,6 +3,7 @@
 /// The figures of one note: best times of a call in nanoseconds, none where there is no library.
 pub struct Line {
     pub name: &'static str,
+    /// Those of the note and the sheet.
     pub bytes: usize,
     pub answer: u32,
     pub reader: Option<f64>,

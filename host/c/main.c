@@ -1,6 +1,6 @@
-/* Runs the entries of notice.h on the whole example of document 01, on every refusal, on empty buffers and on a note of several
- * lines, and compares each number and all lent memory with what documents 01 and 02 say. Writes "ok", or what differs, and then exits
- * with 1. */
+/* Runs the entries of notice.h on the whole example of document 01, alone and with its definition in a sheet, on every refusal of each
+ * text, on empty buffers and on texts of several lines, and compares each number and all lent memory with what documents 01 and 02 say.
+ * Writes "ok", or what differs, and then exits with 1. */
 #include "notice.h"
 
 #include <stdio.h>
@@ -9,24 +9,55 @@
 /* What each lent number holds before a call: no place, kind, count or line of the notes here. */
 #define GUARD 99999
 
+/* What each byte of a page holds before a call: no byte of a page here. */
+#define GUARD_BYTE 7
+
 /* The numbers of a row of each table. */
 #define DEFINITION NOTICE_DEFINITION_WIDTH
 #define SPAN NOTICE_SPAN_WIDTH
 
-/* The numbers of each table, a row and part of another, and the bytes of a page. */
-#define DEFINITIONS (DEFINITION + 2)
-#define SPANS (SPAN + 3)
-#define PAGE 54
+/* The numbers of each table, three rows and part of another, and the bytes of a page. */
+#define DEFINITIONS (3 * DEFINITION + 2)
+#define SPANS (3 * SPAN + 3)
+#define PAGE 64
 
-/* What each byte of a page holds before a call: no byte of the example's page. */
-#define GUARD_BYTE 7
+/* A note and a sheet, and what is to be read in them. */
+struct sample {
+    const char *name;
+    const uint8_t *note;
+    size_t note_len;
+    const uint8_t *sheet;
+    size_t sheet_len;
+    uint32_t definitions[3][DEFINITION];
+    size_t definition_count;
+    uint32_t spans[3][SPAN];
+    size_t span_count;
+    const char *html;
+};
 
-static const char EXAMPLE[] = "[max]: /q2/max \"June\"\n\nUse [max].\n";
-static const uint32_t DEFINITION_ROW[] = {1, 4, 7, 14, 16, 20, 1};
-static const uint32_t SPAN_ROW[] = {NOTICE_SHORTCUT, 27, 32, 28, 31, 1, 7, 14, 16, 20, 3};
+/* What is lent to a call: numbers of each table, and bytes of a page. */
+struct lent {
+    size_t definitions;
+    size_t spans;
+    size_t page;
+};
+
+/* What a call is to answer, and whether each table, and the page, then hold what the sample says. */
+struct wanted {
+    uint32_t number;
+    uint64_t value;
+    uint64_t text;
+    int defined;
+    int spanned;
+    int paged;
+};
+
+static const uint8_t EXAMPLE[] = "[max]: /q2/max \"June\"\n\nUse [max].\n";
 static const char HTML[] = "<p>Use <a href=\"/q2/max\" title=\"June\">max</a>.</p>\n";
+static const size_t FIRST_LINE = 22;
 
 static uint8_t room[NOTICE_LIMIT + 1];
+static uint8_t more_room[NOTICE_LIMIT + 1];
 static int failures = 0;
 
 static void same(const char *what, const char *which, uint64_t got, uint64_t wanted) {
@@ -36,17 +67,20 @@ static void same(const char *what, const char *which, uint64_t got, uint64_t wan
     }
 }
 
-static void same_answer(const char *what, const uint64_t *got, uint64_t a, uint64_t b, uint64_t c) {
-    same(what, "answer[0]", got[0], a);
-    same(what, "answer[1]", got[1], b);
-    same(what, "answer[2]", got[2], c);
-}
-
-/* The table starts with the row, or with none where `row` is NULL; every other number is the guard. */
-static void same_table(const char *what, const char *which, const uint32_t *table, size_t size, const uint32_t *row, size_t width) {
+/* An answer of so many numbers; the one after them is the guard. */
+static void same_answer(const char *what, const uint64_t *got, const uint64_t *wanted, size_t size) {
     size_t i;
     for (i = 0; i < size; i++) {
-        same(what, which, table[i], row != NULL && i < width ? row[i] : GUARD);
+        same(what, "a number of the answer", got[i], wanted[i]);
+    }
+    same(what, "the number after the answer", got[size], GUARD);
+}
+
+/* The table starts with so many numbers of `rows`; every other number is the guard. */
+static void same_table(const char *what, const char *which, const uint32_t *table, size_t size, const uint32_t *rows, size_t used) {
+    size_t i;
+    for (i = 0; i < size; i++) {
+        same(what, which, table[i], i < used ? rows[i] : GUARD);
     }
 }
 
@@ -57,56 +91,222 @@ static void guard(uint32_t *table, size_t size) {
     }
 }
 
-/* Reads `size` bytes of `note` with so many numbers of each table lent. `defined` and `spanned`: whether the table then has the
- * row of the whole example. */
-static void read_case(const char *what, const uint8_t *note, size_t size, size_t definitions_len, size_t spans_len, uint32_t number,
-                      uint64_t value, uint64_t counted, uint64_t spans_counted, int defined, int spanned) {
-    uint32_t definitions[DEFINITIONS];
-    uint32_t spans[SPANS];
-    uint64_t answer[4] = {GUARD, GUARD, GUARD, GUARD};
-    guard(definitions, DEFINITIONS);
-    guard(spans, SPANS);
-    same(what, "the number",
-         notice_read(note, size, definitions_len == 0 ? NULL : definitions, definitions_len, spans_len == 0 ? NULL : spans, spans_len,
-                     answer),
-         number);
-    same_answer(what, answer, value, counted, spans_counted);
-    same(what, "the number after the answer", answer[3], GUARD);
-    same_table(what, "the definition table", definitions, DEFINITIONS, defined ? DEFINITION_ROW : NULL, DEFINITION);
-    same_table(what, "the span table", spans, SPANS, spanned ? SPAN_ROW : NULL, SPAN);
+static void same_tables(const struct sample *sample, const uint32_t *definitions, const uint32_t *spans, struct wanted wanted) {
+    size_t defined = wanted.defined ? sample->definition_count * DEFINITION : 0;
+    size_t spanned = wanted.spanned ? sample->span_count * SPAN : 0;
+    same_table(sample->name, "the definition table", definitions, DEFINITIONS, sample->definitions[0], defined);
+    same_table(sample->name, "the span table", spans, SPANS, sample->spans[0], spanned);
 }
 
-/* The same with so many bytes of a page lent. `paged`: whether the page then has the HTML of the whole example. */
-static void render_case(const char *what, const uint8_t *note, size_t size, size_t definitions_len, size_t spans_len, size_t page_len,
-                        uint32_t number, uint64_t value, const uint64_t *counted, int defined, int spanned, int paged) {
+static void read_case(const struct sample *sample, struct lent lent, struct wanted wanted) {
+    uint32_t definitions[DEFINITIONS];
+    uint32_t spans[SPANS];
+    uint64_t answer[5] = {GUARD, GUARD, GUARD, GUARD, GUARD};
+    uint64_t numbers[4] = {wanted.value, 0, 0, wanted.text};
+    if (wanted.number == NOTICE_OK) {
+        numbers[1] = sample->definition_count;
+        numbers[2] = sample->span_count;
+    }
+    guard(definitions, DEFINITIONS);
+    guard(spans, SPANS);
+    same(sample->name, "the reader's number",
+         notice_read(sample->note, sample->note_len, sample->sheet, sample->sheet_len, lent.definitions == 0 ? NULL : definitions,
+                     lent.definitions, lent.spans == 0 ? NULL : spans, lent.spans, answer),
+         wanted.number);
+    same_answer(sample->name, answer, numbers, 4);
+    same_tables(sample, definitions, spans, wanted);
+}
+
+static void render_case(const struct sample *sample, struct lent lent, struct wanted wanted) {
     uint32_t definitions[DEFINITIONS];
     uint32_t spans[SPANS];
     uint8_t page[PAGE];
-    uint64_t answer[5] = {GUARD, GUARD, GUARD, GUARD, GUARD};
+    uint64_t answer[6] = {GUARD, GUARD, GUARD, GUARD, GUARD, GUARD};
+    uint64_t numbers[5] = {wanted.value, 0, 0, 0, wanted.text};
     size_t i;
+    if (wanted.number == NOTICE_OK) {
+        numbers[1] = sample->definition_count;
+        numbers[2] = sample->span_count;
+        numbers[3] = strlen(sample->html);
+    }
     guard(definitions, DEFINITIONS);
     guard(spans, SPANS);
     memset(page, GUARD_BYTE, PAGE);
-    same(what, "the number",
-         notice_render(note, size, definitions_len == 0 ? NULL : definitions, definitions_len, spans_len == 0 ? NULL : spans, spans_len,
-                       page_len == 0 ? NULL : page, page_len, answer),
-         number);
-    same_answer(what, answer, value, counted[0], counted[1]);
-    same(what, "answer[3]", answer[3], counted[2]);
-    same(what, "the number after the answer", answer[4], GUARD);
-    same_table(what, "the definition table", definitions, DEFINITIONS, defined ? DEFINITION_ROW : NULL, DEFINITION);
-    same_table(what, "the span table", spans, SPANS, spanned ? SPAN_ROW : NULL, SPAN);
+    same(sample->name, "the page writer's number",
+         notice_render(sample->note, sample->note_len, sample->sheet, sample->sheet_len, lent.definitions == 0 ? NULL : definitions,
+                       lent.definitions, lent.spans == 0 ? NULL : spans, lent.spans, lent.page == 0 ? NULL : page, lent.page, answer),
+         wanted.number);
+    same_answer(sample->name, answer, numbers, 5);
+    same_tables(sample, definitions, spans, wanted);
     for (i = 0; i < PAGE; i++) {
-        same(what, "the page", page[i], paged && i < sizeof HTML - 1 ? (uint8_t)HTML[i] : GUARD_BYTE);
+        same(sample->name, "the page", page[i], wanted.paged && i < strlen(sample->html) ? (uint8_t)sample->html[i] : GUARD_BYTE);
     }
 }
 
-static void resolve_case(const char *what, const uint8_t *note, size_t size, const char *label, size_t label_len, uint32_t number,
-                         uint64_t value, uint64_t start, uint64_t end) {
-    uint64_t answer[4] = {GUARD, GUARD, GUARD, GUARD};
-    same(what, "the number", notice_resolve(note, size, (const uint8_t *)label, label_len, answer), number);
-    same_answer(what, answer, value, start, end);
-    same(what, "the number after the answer", answer[3], GUARD);
+static void resolve_case(const struct sample *sample, const char *label, size_t label_len, uint32_t number, uint64_t value,
+                         uint64_t end, uint64_t text) {
+    uint64_t answer[5] = {GUARD, GUARD, GUARD, GUARD, GUARD};
+    uint64_t numbers[4] = {value, number == NOTICE_OK ? value : 0, end, text};
+    const char *what = label == NULL ? "no label" : label;
+    same(what, "the enquiry's number",
+         notice_resolve(sample->note, sample->note_len, sample->sheet, sample->sheet_len, (const uint8_t *)label, label_len, answer),
+         number);
+    same_answer(what, answer, numbers, 4);
+}
+
+/* Of each thing that is lent too little, just enough, and more. */
+static void lending_cases(const struct sample *sample) {
+    size_t rows = sample->definition_count * DEFINITION;
+    size_t spans = sample->span_count * SPAN;
+    size_t page = strlen(sample->html);
+    struct wanted good = {NOTICE_OK, 0, NOTICE_NOTE, 1, 1, 1};
+    struct wanted few_rows = {NOTICE_FEW_DEFINITION_ROWS, sample->definition_count, NOTICE_NOTE, 0, 0, 0};
+    struct wanted few_spans = {NOTICE_FEW_SPAN_ROWS, sample->span_count, NOTICE_NOTE, 1, 0, 0};
+    struct wanted short_page = {NOTICE_SHORT_PAGE, page, NOTICE_NOTE, 1, 1, 0};
+    struct {
+        struct lent lent;
+        struct wanted read;
+        struct wanted rendered;
+    } cases[] = {
+        {{rows, spans, page}, good, good},
+        {{DEFINITIONS, SPANS, PAGE}, good, good},
+        {{rows - 1, SPANS, PAGE}, few_rows, few_rows},
+        {{0, 0, 0}, few_rows, few_rows},
+        {{rows, spans - 1, PAGE}, few_spans, few_spans},
+        {{DEFINITIONS, 0, 0}, few_spans, few_spans},
+        {{rows, spans, page - 1}, good, short_page},
+        {{rows, spans, 0}, good, short_page},
+    };
+    size_t i;
+    for (i = 0; i < sizeof cases / sizeof cases[0]; i++) {
+        read_case(sample, cases[i].lent, cases[i].read);
+        render_case(sample, cases[i].lent, cases[i].rendered);
+    }
+}
+
+/* The whole example: by itself, with its definition in a sheet, and as its own sheet, which then has the same memory or a part of it. */
+static void whole_example(void) {
+    static const uint8_t apart[] = "Use [max].\n";
+    struct sample sample = {"the whole example", EXAMPLE, sizeof EXAMPLE - 1, NULL, 0,
+                            {{NOTICE_NOTE, 1, 4, 7, 14, 16, 20, 1}, {NOTICE_SHEET, 1, 4, 7, 14, 16, 20, 1}}, 1,
+                            {{NOTICE_SHORTCUT, 27, 32, 28, 31, 1, 7, 14, 16, 20, 3}}, 1, HTML};
+    struct sample in_sheet = {"the definition in the sheet", apart, sizeof apart - 1, EXAMPLE, FIRST_LINE,
+                              {{NOTICE_SHEET, 1, 4, 7, 14, 16, 20, 1}}, 1,
+                              {{NOTICE_SHORTCUT, 4, 9, 5, 8, 1, 7, 14, 16, 20, 1}}, 1, HTML};
+    same("the whole example", "its length", sample.note_len, 34);
+    same("the whole example", "the length of its page", strlen(HTML), 51);
+    lending_cases(&sample);
+    lending_cases(&in_sheet);
+    sample.name = "the example as its own sheet";
+    sample.sheet = sample.note;
+    sample.sheet_len = sample.note_len;
+    sample.definition_count = 2;
+    lending_cases(&sample);
+    sample.name = "a part of the example as its sheet";
+    sample.sheet_len = FIRST_LINE;
+    lending_cases(&sample);
+}
+
+/* Definitions of one label in both texts, each text over lines of its own. */
+static void both_texts(void) {
+    static const uint8_t note[] = "[max]: /n\n\n[max] [min]";
+    static const uint8_t sheet[] = "\n\n[min]: /s \"S\"\n[MAX]: /t\n\n[no link](x)";
+    static const struct sample sample = {
+        "both texts", note, sizeof note - 1, sheet, sizeof sheet - 1,
+        {{NOTICE_NOTE, 1, 4, 7, 9, 0, 0, 1}, {NOTICE_SHEET, 3, 6, 9, 11, 13, 14, 3}, {NOTICE_SHEET, 17, 20, 23, 25, 0, 0, 4}}, 3,
+        {{NOTICE_SHORTCUT, 11, 16, 12, 15, 1, 7, 9, 0, 0, 3}, {NOTICE_SHORTCUT, 17, 22, 18, 21, 2, 9, 11, 13, 14, 3}}, 2,
+        "<p><a href=\"/n\">max</a> <a href=\"/s\" title=\"S\">min</a></p>\n"};
+    lending_cases(&sample);
+    resolve_case(&sample, "Max", 3, NOTICE_OK, 7, 9, NOTICE_NOTE);
+    resolve_case(&sample, "Min", 3, NOTICE_OK, 9, 11, NOTICE_SHEET);
+    resolve_case(&sample, "no link", 7, NOTICE_UNDEFINED, 0, 0, NOTICE_NOTE);
+}
+
+/* A definition and a link, each over lines, and two code spans. */
+static void over_lines(void) {
+    static const uint8_t note[] = "\n\n[a\nb]:\nc\n[d\n`e\nf`](g) `h`";
+    static const struct sample sample = {
+        "lines", note, sizeof note - 1, NULL, 0, {{NOTICE_NOTE, 3, 6, 9, 10, 0, 0, 3}}, 1,
+        {{NOTICE_CODE_SPAN, 14, 19, 15, 18, 0, 0, 0, 0, 0, 7}, {NOTICE_INLINE, 11, 23, 12, 19, 0, 21, 22, 0, 0, 6},
+         {NOTICE_CODE_SPAN, 24, 27, 25, 26, 0, 0, 0, 0, 0, 8}}, 3,
+        "<p><a href=\"g\">d\n<code>e f</code></a> <code>h</code></p>\n"};
+    lending_cases(&sample);
+}
+
+/* All three entries refuse the two texts, and leave what they are lent as it was. */
+static void refused(const char *name, const uint8_t *note, size_t note_len, const uint8_t *sheet, size_t sheet_len, uint32_t number,
+                    uint64_t value, uint64_t text) {
+    struct sample sample = {name, note, note_len, sheet, sheet_len, {{0}}, 0, {{0}}, 0, ""};
+    struct lent lent = {DEFINITIONS, SPANS, PAGE};
+    struct wanted wanted = {number, value, text, 0, 0, 0};
+    read_case(&sample, lent, wanted);
+    render_case(&sample, lent, wanted);
+    resolve_case(&sample, "max", 3, number, value, 0, text);
+}
+
+static void refused_texts(void) {
+    static const uint8_t bad[] = {'a', 0xc3, 0xa9, 0xc3};
+    static const uint8_t cr[] = {'a', 13};
+    size_t size = sizeof EXAMPLE - 1;
+    memset(room, 'a', sizeof room);
+    memset(more_room, '[', sizeof more_room);
+    refused("a note too long", room, sizeof room, EXAMPLE, size, NOTICE_TOO_LONG, sizeof room, NOTICE_NOTE);
+    refused("a sheet too long", EXAMPLE, size, room, sizeof room, NOTICE_TOO_LONG, sizeof room, NOTICE_SHEET);
+    refused("both too long", room, sizeof room, more_room, sizeof more_room, NOTICE_TOO_LONG, sizeof room, NOTICE_NOTE);
+    refused("bad text in the note", bad, sizeof bad, NULL, 0, NOTICE_BAD_TEXT, 3, NOTICE_NOTE);
+    refused("bad text in the sheet", NULL, 0, bad, sizeof bad, NOTICE_BAD_TEXT, 3, NOTICE_SHEET);
+    refused("a CR in the sheet", EXAMPLE, size, cr, sizeof cr, NOTICE_BAD_TEXT, 1, NOTICE_SHEET);
+    refused("byte 0 in the sheet", EXAMPLE, size, EXAMPLE, sizeof EXAMPLE, NOTICE_BAD_TEXT, size, NOTICE_SHEET);
+    refused("bad text in both", bad, sizeof bad, cr, sizeof cr, NOTICE_BAD_TEXT, 3, NOTICE_NOTE);
+    refused("bad note, long sheet", cr, sizeof cr, room, sizeof room, NOTICE_BAD_TEXT, 1, NOTICE_NOTE);
+    refused("too deep, bad sheet", more_room, NOTICE_DEPTH + 1, cr, sizeof cr, NOTICE_BAD_TEXT, 1, NOTICE_SHEET);
+}
+
+/* The reader alone, with these texts, where neither has a span. */
+static void plain(const char *name, size_t note_len, const uint8_t *sheet, size_t sheet_len, uint32_t number, uint64_t value) {
+    struct sample sample = {name, room, note_len, sheet, sheet_len, {{0}}, 0, {{0}}, 0, ""};
+    struct lent lent = {0, 0, 0};
+    struct wanted wanted = {number, value, NOTICE_NOTE, 0, 0, 0};
+    read_case(&sample, lent, wanted);
+}
+
+/* What may be in a text at most, and one more; the note's brackets are counted, the sheet's are not. */
+static void limits(void) {
+    struct sample deep = {"a definition in each text, and 1,025 brackets", room, 0, EXAMPLE, 0,
+                          {{NOTICE_NOTE, 1, 4, 7, 14, 16, 20, 1}, {NOTICE_SHEET, 1, 4, 7, 14, 16, 20, 1}}, 2, {{0}}, 0, ""};
+    struct lent lent = {DEFINITIONS, SPANS, PAGE};
+    struct wanted wanted = {NOTICE_TOO_DEEP, 0, NOTICE_NOTE, 1, 0, 0};
+    memset(room, 'a', sizeof room);
+    memset(more_room, '[', sizeof more_room);
+    plain("no note and no sheet", 0, NULL, 0, NOTICE_OK, 0);
+    plain("the longest note and sheet", NOTICE_LIMIT, more_room, NOTICE_LIMIT, NOTICE_OK, 0);
+    memset(room, '[', sizeof room);
+    plain("1,024 brackets", NOTICE_DEPTH, more_room, NOTICE_DEPTH + 1, NOTICE_OK, 0);
+    plain("1,025 brackets", NOTICE_DEPTH + 1, NULL, 0, NOTICE_TOO_DEEP, NOTICE_DEPTH);
+    memcpy(room, EXAMPLE, sizeof EXAMPLE - 1);
+    deep.note_len = sizeof EXAMPLE + NOTICE_DEPTH;
+    deep.sheet_len = FIRST_LINE;
+    wanted.value = deep.note_len - 1;
+    read_case(&deep, lent, wanted);
+    render_case(&deep, lent, wanted);
+}
+
+static void enquiries(void) {
+    static const uint8_t empty[] = "[a]: <>";
+    struct sample sample = {"an enquiry", EXAMPLE, sizeof EXAMPLE - 1, NULL, 0, {{0}}, 0, {{0}}, 0, ""};
+    resolve_case(&sample, "max", 3, NOTICE_OK, 7, 14, NOTICE_NOTE);
+    resolve_case(&sample, (const char *)EXAMPLE + 1, 3, NOTICE_OK, 7, 14, NOTICE_NOTE);
+    resolve_case(&sample, "\n MAX", 5, NOTICE_OK, 7, 14, NOTICE_NOTE);
+    resolve_case(&sample, "min", 3, NOTICE_UNDEFINED, 0, 0, NOTICE_NOTE);
+    resolve_case(&sample, NULL, 0, NOTICE_NO_LABEL, 0, 0, NOTICE_NOTE);
+    resolve_case(&sample, "[max]", 5, NOTICE_NO_LABEL, 0, 0, NOTICE_NOTE);
+    sample.sheet = empty;
+    sample.sheet_len = sizeof empty - 1;
+    resolve_case(&sample, "A", 1, NOTICE_OK, 6, 6, NOTICE_SHEET);
+    sample.note = NULL;
+    sample.note_len = 0;
+    resolve_case(&sample, "a", 1, NOTICE_OK, 6, 6, NOTICE_SHEET);
+    resolve_case(&sample, "max", 3, NOTICE_UNDEFINED, 0, 0, NOTICE_NOTE);
 }
 
 /* Compares the two labels both ways. */
@@ -115,81 +315,8 @@ static void same_label_case(const char *a, size_t a_len, const char *b, size_t b
     same(b == NULL ? "no bytes" : b, "the comparison", notice_same_label((const uint8_t *)b, b_len, (const uint8_t *)a, a_len), number);
 }
 
-static void read_cases(const uint8_t *example, size_t size) {
-    static const uint8_t bad[] = {'a', 0xc3, 0xa9, 0xc3};
-    read_case("exactly the rows needed", example, size, DEFINITION, SPAN, NOTICE_OK, 0, 1, 1, 1, 1);
-    read_case("more than the rows needed", example, size, DEFINITIONS, SPANS, NOTICE_OK, 0, 1, 1, 1, 1);
-    read_case("no definition row", example, size, 0, SPAN, NOTICE_FEW_DEFINITION_ROWS, 1, 0, 0, 0, 0);
-    read_case("part of a definition row", example, size, DEFINITION - 1, 0, NOTICE_FEW_DEFINITION_ROWS, 1, 0, 0, 0, 0);
-    read_case("no span row", example, size, DEFINITION, 0, NOTICE_FEW_SPAN_ROWS, 1, 0, 0, 1, 0);
-    read_case("part of a span row", example, size, DEFINITIONS, SPAN - 1, NOTICE_FEW_SPAN_ROWS, 1, 0, 0, 1, 0);
-    read_case("no note", NULL, 0, 0, 0, NOTICE_OK, 0, 0, 0, 0, 0);
-    read_case("bad text", bad, sizeof bad, DEFINITION, SPAN, NOTICE_BAD_TEXT, 3, 0, 0, 0, 0);
-    memset(room, 'a', sizeof room);
-    read_case("the longest note", room, NOTICE_LIMIT, 0, 0, NOTICE_OK, 0, 0, 0, 0, 0);
-    read_case("a note too long", room, sizeof room, DEFINITION, SPAN, NOTICE_TOO_LONG, sizeof room, 0, 0, 0, 0);
-    memset(room, '[', sizeof room);
-    read_case("1,024 brackets", room, NOTICE_DEPTH, 0, 0, NOTICE_OK, 0, 0, 0, 0, 0);
-    read_case("1,025 brackets", room, NOTICE_DEPTH + 1, DEFINITION, SPAN, NOTICE_TOO_DEEP, NOTICE_DEPTH, 0, 0, 0, 0);
-    memcpy(room, example, size);
-    size += NOTICE_DEPTH;
-    read_case("a definition, and 1,025 brackets", room, size + 1, DEFINITION, SPAN, NOTICE_TOO_DEEP, size, 0, 0, 1, 0);
-}
-
-static void render_cases(const uint8_t *example, size_t size) {
-    static const uint64_t none[] = {0, 0, 0};
-    static const uint64_t one[] = {1, 1, sizeof HTML - 1};
-    static const uint8_t bad[] = {'a', 13};
-    same("the page", "its length", sizeof HTML - 1, 51);
-    render_case("a page of exactly its length", example, size, DEFINITION, SPAN, 51, NOTICE_OK, 0, one, 1, 1, 1);
-    render_case("a page with bytes to spare", example, size, DEFINITIONS, SPANS, PAGE, NOTICE_OK, 0, one, 1, 1, 1);
-    render_case("a page a byte short", example, size, DEFINITION, SPAN, 50, NOTICE_SHORT_PAGE, 51, none, 1, 1, 0);
-    render_case("no page", example, size, DEFINITIONS, SPANS, 0, NOTICE_SHORT_PAGE, 51, none, 1, 1, 0);
-    render_case("a page, no span row", example, size, DEFINITION, SPAN - 1, PAGE, NOTICE_FEW_SPAN_ROWS, 1, none, 1, 0, 0);
-    render_case("a page, no definition row", example, size, DEFINITION - 1, SPAN, PAGE, NOTICE_FEW_DEFINITION_ROWS, 1, none, 0, 0, 0);
-    render_case("no note, no page", NULL, 0, 0, 0, 0, NOTICE_OK, 0, none, 0, 0, 0);
-    render_case("a page, bad text", bad, sizeof bad, DEFINITION, SPAN, PAGE, NOTICE_BAD_TEXT, 1, none, 0, 0, 0);
-    memset(room, '[', sizeof room);
-    render_case("a page, a note too long", room, sizeof room, DEFINITION, SPAN, PAGE, NOTICE_TOO_LONG, sizeof room, none, 0, 0, 0);
-    render_case("a page, 1,025 brackets", room, NOTICE_DEPTH + 1, DEFINITION, SPAN, PAGE, NOTICE_TOO_DEEP, NOTICE_DEPTH, none, 0, 0, 0);
-}
-
-/* A definition and a link, each over lines, and two code spans, by the places and the lines of their starts. */
-static void line_cases(void) {
-    static const uint8_t note[] = "\n\n[a\nb]:\nc\n[d\n`e\nf`](g) `h`";
-    static const uint32_t starts[] = {14, 11, 24};
-    static const uint32_t lines[] = {7, 6, 8};
-    uint32_t definitions[DEFINITION];
-    uint32_t spans[3 * SPAN];
-    uint64_t answer[3];
-    size_t i;
-    guard(definitions, DEFINITION);
-    guard(spans, 3 * SPAN);
-    same("lines", "the number", notice_read(note, sizeof note - 1, definitions, DEFINITION, spans, 3 * SPAN, answer), NOTICE_OK);
-    same_answer("lines", answer, 0, 1, 3);
-    same("lines", "the label's start", definitions[NOTICE_DEFINITION_LABEL_START], 3);
-    same("lines", "the definition's line", definitions[NOTICE_DEFINITION_LINE], 3);
-    for (i = 0; i < 3; i++) {
-        same("lines", "a span's start", spans[i * SPAN + NOTICE_SPAN_START], starts[i]);
-        same("lines", "a span's line", spans[i * SPAN + NOTICE_SPAN_LINE], lines[i]);
-    }
-}
-
-static void resolve_cases(const uint8_t *example, size_t size) {
-    static const uint8_t empty[] = "[a]: <>";
-    resolve_case("max", example, size, "max", 3, NOTICE_OK, 7, 7, 14);
-    resolve_case("a label that is a part of the note", example, size, (const char *)example + 1, 3, NOTICE_OK, 7, 7, 14);
-    resolve_case("\\n MAX", example, size, "\n MAX", 5, NOTICE_OK, 7, 7, 14);
-    resolve_case("min", example, size, "min", 3, NOTICE_UNDEFINED, 0, 0, 0);
-    resolve_case("no bytes", example, size, NULL, 0, NOTICE_NO_LABEL, 0, 0, 0);
-    resolve_case("[max]", example, size, "[max]", 5, NOTICE_NO_LABEL, 0, 0, 0);
-    resolve_case("no note", NULL, 0, "max", 3, NOTICE_UNDEFINED, 0, 0, 0);
-    resolve_case("an empty destination", empty, 7, "a", 1, NOTICE_OK, 6, 6, 6);
-    resolve_case("byte 0", empty, sizeof empty, "a", 1, NOTICE_BAD_TEXT, 7, 0, 0);
-    resolve_case("a note too long", room, sizeof room, "max", 3, NOTICE_TOO_LONG, sizeof room, 0, 0);
-}
-
-static void same_label_cases(const uint8_t *example) {
+static void same_labels(void) {
+    const char *example = (const char *)EXAMPLE;
     same_label_case("max", 3, "max", 3, 1);
     same_label_case("max", 3, "MAX", 3, 1);
     same_label_case("max", 3, "min", 3, 0);
@@ -202,25 +329,18 @@ static void same_label_cases(const uint8_t *example) {
     same_label_case(NULL, 0, " \t\n", 3, 1);
     same_label_case(NULL, 0, NULL, 0, 1);
     same_label_case(NULL, 0, "a", 1, 0);
-    same_label_case((const char *)example + 1, 3, (const char *)example + 28, 3, 1);
-    same_label_case((const char *)example, 34, (const char *)example, 34, 1);
+    same_label_case(example + 1, 3, example + 28, 3, 1);
+    same_label_case(example, 34, example, 34, 1);
 }
 
 int main(void) {
-    uint8_t example[sizeof EXAMPLE - 1];
-    memcpy(example, EXAMPLE, sizeof example);
-    same("the whole example", "its length", sizeof example, 34);
-    same("a definition row", "its width", sizeof DEFINITION_ROW / sizeof DEFINITION_ROW[0], DEFINITION);
-    same("a span row", "its width", sizeof SPAN_ROW / sizeof SPAN_ROW[0], SPAN);
-    read_cases(example, sizeof example);
-    render_cases(example, sizeof example);
-    line_cases();
-    resolve_cases(example, sizeof example);
-    same_label_cases(example);
-    if (memcmp(example, EXAMPLE, sizeof example) != 0) {
-        printf("the note changed\n");
-        failures++;
-    }
+    whole_example();
+    both_texts();
+    over_lines();
+    refused_texts();
+    limits();
+    enquiries();
+    same_labels();
     if (failures != 0) {
         return 1;
     }

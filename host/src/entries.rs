@@ -8,31 +8,37 @@ pub mod raw {
         pub fn notice_read(
             note: *const u8,
             note_len: usize,
+            sheet: *const u8,
+            sheet_len: usize,
             definitions: *mut u32,
             definitions_len: usize,
             spans: *mut u32,
             spans_len: usize,
-            answer: *mut [u64; 3],
+            answer: *mut [u64; 4],
         ) -> u32;
 
         pub fn notice_render(
             note: *const u8,
             note_len: usize,
+            sheet: *const u8,
+            sheet_len: usize,
             definitions: *mut u32,
             definitions_len: usize,
             spans: *mut u32,
             spans_len: usize,
             page: *mut u8,
             page_len: usize,
-            answer: *mut [u64; 4],
+            answer: *mut [u64; 5],
         ) -> u32;
 
         pub fn notice_resolve(
             note: *const u8,
             note_len: usize,
+            sheet: *const u8,
+            sheet_len: usize,
             label: *const u8,
             label_len: usize,
-            answer: *mut [u64; 3],
+            answer: *mut [u64; 4],
         ) -> u32;
 
         pub fn notice_same_label(a: *const u8, a_len: usize, b: *const u8, b_len: usize) -> u32;
@@ -52,6 +58,8 @@ pub struct Reading {
     pub definitions: u64,
     /// The count of spans, on success.
     pub spans: u64,
+    /// The text that a refusal 1 or 2 is about, 0 the note and 1 the sheet; else 0.
+    pub text: u64,
 }
 
 /// What the page writer answers.
@@ -67,6 +75,8 @@ pub struct Rendering {
     pub spans: u64,
     /// The HTML's length in bytes, on success.
     pub length: u64,
+    /// The text that a refusal 1 or 2 is about, 0 the note and 1 the sheet; else 0.
+    pub text: u64,
 }
 
 /// What the enquiry answers.
@@ -80,16 +90,20 @@ pub struct Enquiry {
     pub start: u64,
     /// The destination's end, on success.
     pub end: u64,
+    /// The text in which the destination stands, or that a refusal 1 or 2 is about, 0 the note and 1 the sheet; else 0.
+    pub text: u64,
 }
 
-/// Reads a note and fills the two tables, or refuses.
-pub fn read(note: &[u8], definitions: &mut [u32], spans: &mut [u32]) -> Reading {
-    let mut answer = [0; 3];
-    // SAFETY: each pointer and length is a slice's own, and no two of the slices overlap.
+/// Reads a note with a sheet of definitions beside it and fills the two tables, or refuses.
+pub fn read(note: &[u8], sheet: &[u8], definitions: &mut [u32], spans: &mut [u32]) -> Reading {
+    let mut answer = [0; 4];
+    // SAFETY: each pointer and length is a slice's own, and what is written shares no byte with another slice.
     let number = unsafe {
         notice_read(
             note.as_ptr(),
             note.len(),
+            sheet.as_ptr(),
+            sheet.len(),
             definitions.as_mut_ptr(),
             definitions.len(),
             spans.as_mut_ptr(),
@@ -97,28 +111,32 @@ pub fn read(note: &[u8], definitions: &mut [u32], spans: &mut [u32]) -> Reading 
             &mut answer,
         )
     };
-    let [value, definitions, spans] = answer;
+    let [value, definitions, spans, text] = answer;
     Reading {
         number,
         value,
         definitions,
         spans,
+        text,
     }
 }
 
-/// Reads a note, fills the two tables and writes the page, or refuses.
+/// Reads a note with a sheet beside it, fills the two tables and writes the page, or refuses.
 pub fn render(
     note: &[u8],
+    sheet: &[u8],
     definitions: &mut [u32],
     spans: &mut [u32],
     page: &mut [u8],
 ) -> Rendering {
-    let mut answer = [0; 4];
-    // SAFETY: each pointer and length is a slice's own, and no two of the slices overlap.
+    let mut answer = [0; 5];
+    // SAFETY: each pointer and length is a slice's own, and what is written shares no byte with another slice.
     let number = unsafe {
         notice_render(
             note.as_ptr(),
             note.len(),
+            sheet.as_ptr(),
+            sheet.len(),
             definitions.as_mut_ptr(),
             definitions.len(),
             spans.as_mut_ptr(),
@@ -128,35 +146,39 @@ pub fn render(
             &mut answer,
         )
     };
-    let [value, definitions, spans, length] = answer;
+    let [value, definitions, spans, length, text] = answer;
     Rendering {
         number,
         value,
         definitions,
         spans,
         length,
+        text,
     }
 }
 
-/// Finds the destination that a note gives to a label.
-pub fn resolve(note: &[u8], label: &[u8]) -> Enquiry {
-    let mut answer = [0; 3];
-    // SAFETY: each pointer and length is a slice's own, and no two of the slices overlap.
+/// Finds the destination that a note, or the sheet beside it, gives to a label.
+pub fn resolve(note: &[u8], sheet: &[u8], label: &[u8]) -> Enquiry {
+    let mut answer = [0; 4];
+    // SAFETY: each pointer and length is a slice's own, and what is written shares no byte with another slice.
     let number = unsafe {
         notice_resolve(
             note.as_ptr(),
             note.len(),
+            sheet.as_ptr(),
+            sheet.len(),
             label.as_ptr(),
             label.len(),
             &mut answer,
         )
     };
-    let [value, start, end] = answer;
+    let [value, start, end, text] = answer;
     Enquiry {
         number,
         value,
         start,
         end,
+        text,
     }
 }
 

@@ -1,7 +1,8 @@
-//! Notes by chance, the same in every run with the same seed, and the notes and labels of the benchmark.
+//! Notes and sheets by chance, the same in every run with the same seed, and the notes and labels of the benchmark.
 
 pub mod alphabets;
 pub mod bench_notes;
 pub mod chance;
 pub mod grammar;
 pub mod long_labels;
+pub mod sheets;

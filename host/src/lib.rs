@@ -2,7 +2,7 @@
 //!
 //! [`entries`] calls the proved library. [`second`] is a second reader of notices, written from
 //! document 01 by another method than the proved one, so that the two can be compared. [`generate`]
-//! makes notes for the comparison and the benchmark. [`cases`] are those that the program `samples`
+//! makes notes and sheets for the comparison and the benchmark. [`cases`] are those that the program `samples`
 //! is run on, [`sources`] the sources' examples (a file that [`json`] reads).
 
 pub mod cases;

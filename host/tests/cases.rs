@@ -4,7 +4,7 @@ use std::path::Path;
 
 use host::cases::{
     all, comparison, container, enquiry, expected, tables_and_page, Case, DEFINITION_ROOM,
-    PAGE_ROOM, SPAN_ROOM,
+    PAGE_ROOM, SPAN_ROOM, TEXT_ROOM,
 };
 use host::second::{Reader, Wrong};
 
@@ -40,6 +40,9 @@ fn the_program_has_room_for_every_case() {
         assert!(case.definition_numbers <= DEFINITION_ROOM, "{}", case.name);
         assert!(case.span_numbers <= SPAN_ROOM, "{}", case.name);
         assert!(case.page_bytes <= PAGE_ROOM, "{}", case.name);
+        let texts = [&case.note, &case.sheet, &case.label];
+        let lines = texts.iter().map(|text| text.len() + 1).sum::<usize>();
+        assert!(lines <= TEXT_ROOM, "{}", case.name);
     }
 }
 
@@ -62,10 +65,14 @@ const ENQUIRY: usize = 1;
 const COMPARISON: usize = 2;
 
 /// The parts in which a wrong reading has to show: what is the enquiry's alone in the enquiry,
-/// everything else in the tables or the page, and which labels are equal in the comparison too.
+/// everything else in the tables or the page; what all entries do with the two texts in the enquiry too,
+/// and which labels are equal in the comparison too.
 fn shows_in(wrong: Wrong) -> &'static [usize] {
     if wrong.is_of_enquiry() {
         return &[ENQUIRY];
+    }
+    if wrong.is_of_both_texts() {
+        return &[TABLES_AND_PAGE, ENQUIRY];
     }
     if wrong.is_of_comparison() {
         return &[TABLES_AND_PAGE, COMPARISON];
@@ -106,8 +113,8 @@ fn every_wrong_reading_is_told_apart() {
     let cases = all();
     let mut stored: Vec<Stored> = cases.iter().enumerate().map(Stored::of).collect();
     stored.retain(|stored| !stored.is_by_chance());
-    // Short notes first: they tell most readings apart, and are quick.
-    stored.sort_by_key(|stored| stored.case.note.len());
+    // Short texts first: they tell most readings apart, and are quick.
+    stored.sort_by_key(|stored| stored.case.note.len() + stored.case.sheet.len());
     let mut missed = Vec::new();
     let all = Wrong::all().into_iter();
     for (wrong, part) in
@@ -119,5 +126,5 @@ fn every_wrong_reading_is_told_apart() {
         }
     }
     assert!(missed.is_empty(), "told apart by no case: {missed:?}");
-    assert!(Wrong::kinds() >= 100, "{} kinds", Wrong::kinds());
+    assert!(Wrong::kinds() >= 190, "{} kinds", Wrong::kinds());
 }

@@ -23,15 +23,21 @@ pub mod second {
     const MOST_NUMBERS: usize = 120_003;
     const MOST_BYTES: usize = 400_000;
 
-    pub fn read(note: &[u8], definition_numbers: usize, span_numbers: usize) -> ReadAnswer {
+    pub fn read(
+        note: &[u8],
+        sheet: &[u8],
+        definition_numbers: usize,
+        span_numbers: usize,
+    ) -> ReadAnswer {
         let mut definitions = vec![NUMBER; definition_numbers.min(MOST_NUMBERS)];
         let mut spans = vec![NUMBER; span_numbers.min(MOST_NUMBERS)];
-        let answer = entries::read(note, &mut definitions, &mut spans);
+        let answer = entries::read(note, sheet, &mut definitions, &mut spans);
         ReadAnswer {
             number: answer.number,
             value: answer.value as usize,
             definition_count: answer.definitions as usize,
             span_count: answer.spans as usize,
+            text: answer.text as usize,
             definition_rows: rows(&definitions, !matches!(answer.number, 1..=3)),
             span_rows: rows(&spans, !matches!(answer.number, 1..=5)),
         }
@@ -39,6 +45,7 @@ pub mod second {
 
     pub fn render(
         note: &[u8],
+        sheet: &[u8],
         definition_numbers: usize,
         span_numbers: usize,
         page_bytes: usize,
@@ -46,25 +53,27 @@ pub mod second {
         let mut definitions = vec![NUMBER; definition_numbers.min(MOST_NUMBERS)];
         let mut spans = vec![NUMBER; span_numbers.min(MOST_NUMBERS)];
         let mut page = vec![BYTE; page_bytes.min(MOST_BYTES)];
-        let answer = entries::render(note, &mut definitions, &mut spans, &mut page);
+        let answer = entries::render(note, sheet, &mut definitions, &mut spans, &mut page);
         RenderAnswer {
             number: answer.number,
             value: answer.value as usize,
             definition_count: answer.definitions as usize,
             span_count: answer.spans as usize,
             page_length: answer.length as usize,
+            text: answer.text as usize,
             definition_rows: rows(&definitions, !matches!(answer.number, 1..=3)),
             span_rows: rows(&spans, !matches!(answer.number, 1..=5)),
             page: written(page, answer.number == 0),
         }
     }
 
-    pub fn resolve(note: &[u8], label: &[u8]) -> ResolveAnswer {
-        let answer = entries::resolve(note, label);
+    pub fn resolve(note: &[u8], sheet: &[u8], label: &[u8]) -> ResolveAnswer {
+        let answer = entries::resolve(note, sheet, label);
         ResolveAnswer {
             number: answer.number,
             value: answer.value as usize,
             destination: answer.start as usize..answer.end as usize,
+            text: answer.text as usize,
         }
     }
 

@@ -1,28 +1,40 @@
 //! Cases of the requests of document 02 that are in force, answered by an independent reader, against the
-//! second reader. A case was answered when the requests in its `in_force` were: those of request 4 are
-//! older than lines, but have no rows and lend no whole row, so that they stand as they were.
+//! second reader. A case was answered when the requests in its `in_force` were. Where request 1 was not,
+//! the sheet is empty and a definition row has seven numbers: such a case holds behind a leading 0, where as
+//! many whole definition rows are lent. Those of request 4 are older than lines, but have no rows and lend no
+//! whole row, so that they stand as they were.
 
 use host::json::{self, Value};
-use host::second::{self, ReadAnswer, RenderAnswer};
+use host::second::{self, ReadAnswer, RenderAnswer, ResolveAnswer, DEFINITION_ROW_WIDTH};
 
 const FILE: &str = include_str!("data/requests.json");
 /// The requests that are in force.
-const IN_FORCE: [usize; 3] = [2, 4, 9];
+const IN_FORCE: [usize; 4] = [1, 2, 4, 9];
+/// The request that gave definition rows their leading number.
+const SHEET: f64 = 1.0;
 
-/// A case: what is lent, and what is wanted.
+/// A case: the two texts, and what is wanted.
 struct Case {
     name: String,
     note: Vec<u8>,
+    sheet: Vec<u8>,
+    wanted: Wanted,
+}
+
+/// How many numbers are lent to each table.
+#[derive(Clone, Copy)]
+struct Tables {
     definition_numbers: usize,
     span_numbers: usize,
-    wanted: Wanted,
 }
 
 /// What is wanted of the entry that a case is for.
 enum Wanted {
-    Read(ReadAnswer),
+    Read(Tables, ReadAnswer),
     /// With so many bytes lent to the page.
-    Page(usize, RenderAnswer),
+    Page(Tables, usize, RenderAnswer),
+    /// For this label, with the part that is handed back.
+    Enquiry(Vec<u8>, ResolveAnswer, Vec<u8>),
 }
 
 fn cases() -> Vec<Case> {
@@ -33,52 +45,97 @@ fn cases() -> Vec<Case> {
 
 fn case(value: &Value) -> Case {
     let in_force = list(value, "in_force").iter().map(Value::as_number);
-    let known = |request: f64| IN_FORCE.contains(&(request as usize));
-    assert!(in_force.flatten().all(known), "{value:?}");
-    // What later requests add: a sheet, and a setting.
-    assert_eq!(string(value, "sheet_hex"), "", "{value:?}");
-    assert_eq!(value.get("release"), Some(&Value::Bool(false)), "{value:?}");
+    let in_force: Vec<f64> = in_force.flatten().collect();
+    let known = |request: &f64| IN_FORCE.contains(&(*request as usize));
+    assert!(in_force.iter().all(known), "{value:?}");
+    // What a later request adds: a setting.
+    assert_ne!(value.get("release"), Some(&Value::Bool(true)), "{value:?}");
+    let before_sheets = !in_force.contains(&SHEET);
     let expect = value.get("expect").expect("what is wanted");
+    let tables = || tables(value, before_sheets);
     Case {
         name: string(value, "id") + " " + string(value, "what").as_str(),
         note: bytes(value, "note_hex"),
-        definition_numbers: number(value, "def_numbers"),
-        span_numbers: number(value, "span_numbers"),
+        sheet: bytes(value, "sheet_hex"),
         wanted: match string(value, "entry").as_str() {
-            "read" => Wanted::Read(wanted_reading(expect)),
-            "page" => Wanted::Page(number(value, "page_bytes"), wanted_page(expect)),
+            "read" => Wanted::Read(tables(), wanted_reading(expect, before_sheets)),
+            "page" => {
+                let page_bytes = number(value, "page_bytes");
+                Wanted::Page(tables(), page_bytes, wanted_page(expect, before_sheets))
+            }
+            "enquire" => {
+                let part = bytes(expect, "part_hex");
+                let wanted = wanted_enquiry(expect, part.len());
+                Wanted::Enquiry(bytes(value, "label_hex"), wanted, part)
+            }
             other => panic!("a case of the entry {other}"),
         },
     }
 }
 
+/// What is lent: where rows had seven numbers, as many whole definition rows and the same part of a row.
+fn tables(value: &Value, before_sheets: bool) -> Tables {
+    let numbers = number(value, "def_numbers");
+    let width = DEFINITION_ROW_WIDTH - usize::from(before_sheets);
+    Tables {
+        definition_numbers: numbers / width * DEFINITION_ROW_WIDTH + numbers % width,
+        span_numbers: number(value, "span_numbers"),
+    }
+}
+
 /// What is wanted of the reader; a table that is unchanged is an empty list there, and a refusal has no
 /// counts.
-fn wanted_reading(expect: &Value) -> ReadAnswer {
+fn wanted_reading(expect: &Value, before_sheets: bool) -> ReadAnswer {
     let answer = number(expect, "number") as u32;
     let changed = |after: &[u32]| !after.contains(&answer);
+    let definition_rows = || {
+        if before_sheets {
+            return rows(expect, "def_rows").into_iter().map(behind_0).collect();
+        }
+        rows(expect, "def_rows")
+    };
     ReadAnswer {
         number: answer,
         value: number(expect, "value"),
         definition_count: count(expect, "definitions"),
         span_count: count(expect, "spans"),
-        definition_rows: changed(&[1, 2, 3]).then(|| rows(expect, "def_rows")),
+        text: number(expect, "text"),
+        definition_rows: changed(&[1, 2, 3]).then(definition_rows),
         span_rows: changed(&[1, 2, 3, 4, 5]).then(|| rows(expect, "span_rows")),
     }
 }
 
 /// What is wanted of the page writer, likewise.
-fn wanted_page(expect: &Value) -> RenderAnswer {
-    let reading = wanted_reading(expect);
+fn wanted_page(expect: &Value, before_sheets: bool) -> RenderAnswer {
+    let reading = wanted_reading(expect, before_sheets);
     RenderAnswer {
         number: reading.number,
         value: reading.value,
         definition_count: reading.definition_count,
         span_count: reading.span_count,
         page_length: count(expect, "html_length"),
+        text: reading.text,
         definition_rows: reading.definition_rows,
         span_rows: reading.span_rows,
         page: (reading.number == 0).then(|| bytes(expect, "page_hex")),
+    }
+}
+
+/// A row of seven numbers with the note's number before it.
+fn behind_0([a, b, c, d, e, f, g]: [u32; 7]) -> [u32; DEFINITION_ROW_WIDTH] {
+    [0, a, b, c, d, e, f, g]
+}
+
+/// What is wanted of the enquiry, whose part has so many bytes.
+fn wanted_enquiry(expect: &Value, part: usize) -> ResolveAnswer {
+    let answer = number(expect, "number") as u32;
+    let value = number(expect, "value");
+    let found = value..value + part;
+    ResolveAnswer {
+        number: answer,
+        value,
+        destination: if answer == 0 { found } else { 0..0 },
+        text: number(expect, "text"),
     }
 }
 
@@ -122,25 +179,49 @@ fn row<const WIDTH: usize>(value: &Value) -> [u32; WIDTH] {
     std::array::from_fn(|place| items[place].as_number().expect("a number") as u32)
 }
 
-#[test]
-fn answers_as_wanted() {
-    let mut read = 0;
-    let mut rendered = 0;
-    for case in cases() {
-        let (definitions, spans) = (case.definition_numbers, case.span_numbers);
-        match case.wanted {
-            Wanted::Read(wanted) => {
-                let answer = second::read(&case.note, definitions, spans);
-                assert_eq!(answer, wanted, "{}", case.name);
-                read += 1;
+impl Case {
+    /// Fails where the answer is another.
+    fn check(&self) {
+        let Case {
+            name, note, sheet, ..
+        } = self;
+        match &self.wanted {
+            Wanted::Read(lent, wanted) => {
+                let Tables {
+                    definition_numbers,
+                    span_numbers,
+                } = *lent;
+                let answer = second::read(note, sheet, definition_numbers, span_numbers);
+                assert_eq!(answer, *wanted, "{name}");
             }
-            Wanted::Page(bytes, wanted) => {
-                let answer = second::render(&case.note, definitions, spans, bytes);
-                assert_eq!(answer, wanted, "{}", case.name);
-                rendered += 1;
+            Wanted::Page(lent, bytes, wanted) => {
+                let Tables {
+                    definition_numbers,
+                    span_numbers,
+                } = *lent;
+                let answer = second::render(note, sheet, definition_numbers, span_numbers, *bytes);
+                assert_eq!(answer, *wanted, "{name}");
+            }
+            Wanted::Enquiry(label, wanted, part) => {
+                let answer = second::resolve(note, sheet, label);
+                assert_eq!(answer, *wanted, "{name}");
+                let text = [note, sheet][answer.text];
+                assert_eq!(text[answer.destination], **part, "{name}");
             }
         }
     }
-    // Of request 9: 12 and 28; of request 4: 5.
-    assert_eq!((read, rendered), (12, 28 + 5));
+}
+
+#[test]
+fn answers_as_wanted() {
+    let cases = cases();
+    cases.iter().for_each(Case::check);
+    let count = |of: fn(&Wanted) -> bool| cases.iter().filter(|case| of(&case.wanted)).count();
+    // Of request 4: 5 pages. Of request 9: 12 and 28. Of request 1: 19, 43 and 54 enquiries.
+    assert_eq!(count(|wanted| matches!(wanted, Wanted::Read(..))), 12 + 19);
+    assert_eq!(
+        count(|wanted| matches!(wanted, Wanted::Page(..))),
+        5 + 28 + 43
+    );
+    assert_eq!(count(|wanted| matches!(wanted, Wanted::Enquiry(..))), 54);
 }

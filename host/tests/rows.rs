@@ -23,7 +23,7 @@ const NOTE: &[u8] = b"[max]: /q2/max \"June\"\n\nUse [max].\n";
 
 #[test]
 fn one_item_a_line() {
-    let wanted = "definition 1 4 7 14 16 20 1\n\
+    let wanted = "definition 0 1 4 7 14 16 20 1\n\
                   span 5 27 32 28 31 1 7 14 16 20 3\n\
                   page \"<p>Use <a href=\\\"/q2/max\\\" title=\\\"June\\\">max</a>.</p>\\n\"\n";
     assert_eq!(rows(&[], NOTE), (wanted.to_string(), Some(0)));
@@ -37,19 +37,34 @@ fn the_page_alone() {
 
 #[test]
 fn refusals() {
-    assert_eq!(rows(&[], b"ab\r"), ("refusal 2 2\n".to_string(), Some(1)));
+    assert_eq!(rows(&[], b"ab\r"), ("refusal 2 2 0\n".to_string(), Some(1)));
     let deep = format!("[a]: b\n\n{}", "[".repeat(1_025));
     assert_eq!(
         rows(&[], deep.as_bytes()),
         (
-            "definition 1 2 5 6 0 0 1\nrefusal 4 1032\n".to_string(),
+            "definition 0 1 2 5 6 0 0 1\nrefusal 4 1032 0\n".to_string(),
             Some(1)
         )
     );
 }
 
+/// The whole example in a file.
+const FILE: &str = concat!(env!("CARGO_MANIFEST_DIR"), "/tests/data/max.md");
+
 #[test]
 fn note_in_a_file() {
-    let file = concat!(env!("CARGO_MANIFEST_DIR"), "/tests/data/max.md");
-    assert_eq!(rows(&[file], b""), rows(&[], NOTE));
+    assert_eq!(rows(&[FILE], b""), rows(&[], NOTE));
+}
+
+/// The whole example as note and as sheet.
+#[test]
+fn sheet_in_a_file() {
+    let (printed, code) = rows(&[FILE, FILE], b"");
+    let wanted = [
+        "definition 0 1 4 7 14 16 20 1",
+        "definition 1 1 4 7 14 16 20 1",
+        "span 5 27 32 28 31 1 7 14 16 20 3",
+    ];
+    let lines: Vec<&str> = printed.lines().take(3).collect();
+    assert_eq!((lines.as_slice(), code), (wanted.as_slice(), Some(0)));
 }

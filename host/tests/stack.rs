@@ -77,27 +77,37 @@ fn taken(mut call: impl FnMut()) -> usize {
     depth(&mut call, true) - without
 }
 
+/// The notes of the benchmark beside their own sheets, and each as its own sheet.
+fn texts() -> Vec<(Vec<u8>, Vec<u8>)> {
+    let notes = bench_notes::all().into_iter();
+    notes
+        .flat_map(|note| {
+            let twice = (note.bytes.clone(), note.bytes.clone());
+            [(note.bytes, note.sheet), twice]
+        })
+        .collect()
+}
+
 #[test]
 fn a_call_keeps_to_the_promised_stack() {
     let rows = LONGEST_NOTE / 3 + 1;
-    let mut definitions = vec![0; rows * DEFINITION_ROW_WIDTH];
+    let mut definitions = vec![0; 2 * rows * DEFINITION_ROW_WIDTH];
     let mut spans = vec![0; rows * SPAN_ROW_WIDTH];
     let mut page = vec![0; 1 << 20];
     let mut most = [0; 4];
-    for note in bench_notes::all() {
-        let note = &note.bytes;
+    for (note, sheet) in texts() {
         let calls = [
             taken(|| {
-                entries::read(note, &mut definitions, &mut spans);
+                entries::read(&note, &sheet, &mut definitions, &mut spans);
             }),
             taken(|| {
-                entries::render(note, &mut definitions, &mut spans, &mut page);
+                entries::render(&note, &sheet, &mut definitions, &mut spans, &mut page);
             }),
             taken(|| {
-                entries::resolve(note, b"limit 499");
+                entries::resolve(&note, &sheet, b"limit 499");
             }),
             taken(|| {
-                entries::same_label(note, note);
+                entries::same_label(&note, &sheet);
             }),
         ];
         most = [0, 1, 2, 3].map(|entry| most[entry].max(calls[entry]));

@@ -14,7 +14,7 @@ use Rattle.container.specs.declared.Number.the-variants as number
 use Rattle.container.specs.declared.Sizes.{Sizes}
 use Rattle.container.specs.declared.Header.{Header}
 use Rattle.container.specs.declared.Header.the-variants as header
-use Rattle.container.specs.Container.{digit, digitStep, field, ruled, sizes, headerOf, lineOf, Lendable, Framed}
+use Rattle.container.specs.Container.{digit, digitStep, field, ruled, sizes, headerOf, lineOf, Framed}
 
 -- ---- the ways of a turn
 pub below : (n b : ℕ) (s : List ℕ) → b < 48 → digitStep n b s ≡ stop number.Bad
@@ -34,32 +34,36 @@ unfolding digitStep
 taken n b s l u h = rw (le-leb 48 b l, le-leb b 57 u, lt-ltb n 100000 h)
 
 -- ---- a header
-pub cased : {v w x y z : Number} {d n p k l : ℕ} → v ≡ number.Of d → w ≡ number.Of n → x ≡ number.Of p → y ≡ number.Of k → z ≡ number.Of l
-    → header.Case (sizes d n p k l) ≡ headerOf v w x y z
-cased e f g h i = rw (e, f, g, h, i)
+pub cased : {v w x y t z : Number} {d n p k h l : ℕ} → v ≡ number.Of d → w ≡ number.Of n → x ≡ number.Of p → y ≡ number.Of k → t ≡ number.Of h → z ≡ number.Of l
+    → header.Case (sizes d n p k h l) ≡ headerOf v w x y t z
+cased e f g i j m = rw (e, f, g, i, j, m)
 
-pub no-note : {v w x y : Number} (z : Number) {d n p : ℕ} → v ≡ number.Of d → w ≡ number.Of n → x ≡ number.Of p → y ≡ number.Bad → header.Bad ≡ headerOf v w x y z
-no-note z e f g h = rw (e, f, g, h)
+pub no-page : {v w x : Number} (y t z : Number) {d n : ℕ} → v ≡ number.Of d → w ≡ number.Of n → x ≡ number.Bad → header.Bad ≡ headerOf v w x y t z
+no-page y t z e f g = rw (e, f, g)
 
-pub no-label : {v w x y z : Number} {d n p k : ℕ} → v ≡ number.Of d → w ≡ number.Of n → x ≡ number.Of p → y ≡ number.Of k → z ≡ number.Bad
-    → header.Bad ≡ headerOf v w x y z
-no-label e f g h i = rw (e, f, g, h, i)
+pub no-note : {v w x y : Number} (t z : Number) {d n p : ℕ} → v ≡ number.Of d → w ≡ number.Of n → x ≡ number.Of p → y ≡ number.Bad → header.Bad ≡ headerOf v w x y t z
+no-note t z e f g i = rw (e, f, g, i)
+
+pub no-sheet : {v w x y t : Number} (z : Number) {d n p k : ℕ} → v ≡ number.Of d → w ≡ number.Of n → x ≡ number.Of p → y ≡ number.Of k → t ≡ number.Bad
+    → header.Bad ≡ headerOf v w x y t z
+no-sheet z e f g i j = rw (e, f, g, i, j)
+
+pub no-label : {v w x y t z : Number} {d n p k h : ℕ} → v ≡ number.Of d → w ≡ number.Of n → x ≡ number.Of p → y ≡ number.Of k → t ≡ number.Of h → z ≡ number.Bad
+    → header.Bad ≡ headerOf v w x y t z
+no-label e f g i j m = rw (e, f, g, i, j, m)
 
 module _ (line : List ℕ) {b : Bool} (tells : b ≡ ruled line) where
-  pub ruled-length : b ≡ true → length line ≡ 35
-  ruled-length t = eqb-true (length line) 35 (and-left _ _ (and-left _ _ (and-left _ _ (and-left _ _ (and-left _ _ (sym tells ∙ t))))))
+  pub ruled-length : b ≡ true → length line ≡ 42
+  ruled-length t = eqb-true (length line) 42 (and-left _ _ (and-left _ _ (and-left _ _ (and-left _ _ (and-left _ _ (and-left _ _ (sym tells ∙ t)))))))
 
-  pub said : b ≡ true → {v w x y z : Number} {r : Header} → v ≡ field line 0 → w ≡ field line 7 → x ≡ field line 14 → y ≡ field line 21 → z ≡ field line 28
-      → r ≡ headerOf v w x y z → r ≡ lineOf line
-  said t f g h i j r = rw (r, f, g, h, i, j, sym tells ∙ t)
+  pub said : b ≡ true → {v w x y u z : Number} {r : Header} → v ≡ field line 0 → w ≡ field line 7 → x ≡ field line 14 → y ≡ field line 21 → u ≡ field line 28
+      → z ≡ field line 35 → r ≡ headerOf v w x y u z → r ≡ lineOf line
+  said t f g h i j k r = rw (r, f, g, h, i, j, k, sym tells ∙ t)
 
   pub unsaid : b ≡ false → header.Bad ≡ lineOf line
   unsaid f = rw (sym tells ∙ f)
 
 -- ---- a case
-pub lendable : (s : Sizes) → s .definitions ≤ 1200 → s .spans ≤ 3000 → s .page ≤ 40960 → Lendable s
-lendable s d n p = record { definitions = d; spans = n; page = p }
-
-pub framed : (room : List ℕ) (s : Sizes) → s .note < length room → s .label < length room - s .note - 1
-    → Framed (length (take (s .note + s .label + 2) room)) s
-framed room s n l = simp length-take (omega arith)
+pub framed : (room : List ℕ) (s : Sizes) → s .note < length room → s .sheet < length room - s .note - 1 → s .label < length room - s .note - 1 - s .sheet - 1
+    → Framed (length (take (s .note + s .sheet + s .label + 3) room)) s
+framed room s n h l = simp length-take (omega arith)

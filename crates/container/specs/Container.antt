@@ -1,4 +1,4 @@
--- What a header line of the container says: five numbers of six digits.
+-- What a header line of the container says: six numbers of six digits.
 use Prim.Native.Nat.{ℕ, _+_, _-_, _*_, _≤_}
 use mathlib.Core.Path.{_≡_}
 use mathlib.Core.Bool.{Bool, cond, _&&_}
@@ -29,23 +29,24 @@ numberFrom = scan digitStep number.Of
 abbrev pub field : List ℕ → ℕ → Number
 field line at = numberFrom (take 6 (drop at line)) 0
 
--- 35 bytes with four spaces and a line end among them
+-- 42 bytes with five spaces and a line end among them
 abbrev pub ruled : List ℕ → Bool
-ruled line = ((((eqb (length line) 35 && eqb (getD line 6 0) 32) && eqb (getD line 13 0) 32) && eqb (getD line 20 0) 32) && eqb (getD line 27 0) 32) && eqb (getD line 34 0) 10
+ruled line = (((((eqb (length line) 42 && eqb (getD line 6 0) 32) && eqb (getD line 13 0) 32) && eqb (getD line 20 0) 32) && eqb (getD line 27 0) 32) && eqb (getD line 34 0) 32) && eqb (getD line 41 0) 10
 
-abbrev pub sizes : ℕ → ℕ → ℕ → ℕ → ℕ → Sizes
-sizes d n p k l = record { definitions = d; spans = n; page = p; note = k; label = l }
+abbrev pub sizes : ℕ → ℕ → ℕ → ℕ → ℕ → ℕ → Sizes
+sizes d n p k h l = record { definitions = d; spans = n; page = p; note = k; sheet = h; label = l }
 
-abbrev pub headerOf : Number → Number → Number → Number → Number → Header
-headerOf (number.Of d) (number.Of n) (number.Of p) (number.Of k) (number.Of l) = header.Case (sizes d n p k l)
-headerOf number.Bad n p k l = header.Bad
-headerOf (number.Of d) number.Bad p k l = header.Bad
-headerOf (number.Of d) (number.Of n) number.Bad k l = header.Bad
-headerOf (number.Of d) (number.Of n) (number.Of p) number.Bad l = header.Bad
-headerOf (number.Of d) (number.Of n) (number.Of p) (number.Of k) number.Bad = header.Bad
+abbrev pub headerOf : Number → Number → Number → Number → Number → Number → Header
+headerOf (number.Of d) (number.Of n) (number.Of p) (number.Of k) (number.Of h) (number.Of l) = header.Case (sizes d n p k h l)
+headerOf number.Bad n p k h l = header.Bad
+headerOf (number.Of d) number.Bad p k h l = header.Bad
+headerOf (number.Of d) (number.Of n) number.Bad k h l = header.Bad
+headerOf (number.Of d) (number.Of n) (number.Of p) number.Bad h l = header.Bad
+headerOf (number.Of d) (number.Of n) (number.Of p) (number.Of k) number.Bad l = header.Bad
+headerOf (number.Of d) (number.Of n) (number.Of p) (number.Of k) (number.Of h) number.Bad = header.Bad
 
 abbrev pub lineOf : List ℕ → Header
-lineOf line = cond (ruled line) (headerOf (field line 0) (field line 7) (field line 14) (field line 21) (field line 28)) header.Bad
+lineOf line = cond (ruled line) (headerOf (field line 0) (field line 7) (field line 14) (field line 21) (field line 28) (field line 35)) header.Bad
 
 -- ---- what a case can be
 -- the program has so much to lend
@@ -54,6 +55,6 @@ pub record Lendable (s : Sizes) : Type 0 where
   pub spans : s .spans ≤ 3000
   pub page : s .page ≤ 40960
 
--- the note and the label, each with its line end, are so many bytes
+-- the note, the sheet and the label, each with its line end, are so many bytes
 abbrev pub Framed : ℕ → Sizes → Type 0
-Framed n s = n ≡ s .note + s .label + 2
+Framed n s = n ≡ s .note + s .sheet + s .label + 3

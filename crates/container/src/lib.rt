@@ -1,19 +1,21 @@
-// The cases that the program is run on, one after the other: a header line, the note's bytes and a line end, the label's bytes and a
-// line end. The header line is five decimal numbers of six digits with a space between them: how many numbers are lent to the
-// definition table, how many to the span table, how many bytes to the page, how many bytes the note has, and how many the label.
+// The cases that the program is run on, one after the other: a header line, and the bytes of the note, of the sheet and of the label, each
+// with a line end. The header line is six decimal numbers of six digits with a space between them: how many numbers are lent to the
+// definition table, how many to the span table, how many bytes to the page, how many bytes the note has, how many the sheet, and how many
+// the label.
 
 ghost use mathlib.Core.Path.{_≡_};
 ghost use Rattle.container.specs.Container.{numberFrom, ruled, headerOf, lineOf};
 
 // The length of a header line with its line end.
-pub const HEADER: usize = 35;
+pub const HEADER: usize = 42;
 
-// The numbers lent to each table, the bytes lent to the page, and the lengths of the note and the label.
+// The numbers lent to each table, the bytes lent to the page, and the lengths of the note, the sheet and the label.
 pub struct Sizes {
     pub definitions: usize,
     pub spans: usize,
     pub page: usize,
     pub note: usize,
+    pub sheet: usize,
     pub label: usize,
 }
 
@@ -29,7 +31,7 @@ pub enum Header {
     Bad,
 }
 
-// Whether the line has a header's length, four spaces and a line end.
+// Whether the line has a header's length, five spaces and a line end.
 fn is_ruled(line: &[u8]) -> bool
     ensures { λ r. ⌜ r ≡ ruled (now (line .entry)) ⌝ }
 {
@@ -38,7 +40,8 @@ fn is_ruled(line: &[u8]) -> bool
         & (scan::peek(line, 13) == 32)
         & (scan::peek(line, 20) == 32)
         & (scan::peek(line, 27) == 32)
-        & (scan::peek(line, 34) == 10)
+        & (scan::peek(line, 34) == 32)
+        & (scan::peek(line, 41) == 10)
 }
 
 // The header with these numbers.
@@ -47,9 +50,10 @@ fn header_with(
     spans: Number,
     page: Number,
     note: Number,
+    sheet: Number,
     label: Number,
 ) -> Header
-    ensures { λ r. ⌜ r ≡ headerOf definitions spans page note label ⌝ }
+    ensures { λ r. ⌜ r ≡ headerOf definitions spans page note sheet label ⌝ }
 {
     let Number::Of(definitions) = definitions else {
         return Header::Bad;
@@ -63,6 +67,9 @@ fn header_with(
     let Number::Of(note) = note else {
         return Header::Bad;
     };
+    let Number::Of(sheet) = sheet else {
+        return Header::Bad;
+    };
     let Number::Of(label) = label else {
         return Header::Bad;
     };
@@ -71,6 +78,7 @@ fn header_with(
         spans,
         page,
         note,
+        sheet,
         label,
     })
 }
@@ -84,8 +92,9 @@ pub fn read_header(line: &[u8]) -> Header
         let spans = read_number(&line[7..13]);
         let page = read_number(&line[14..20]);
         let note = read_number(&line[21..27]);
-        let label = read_number(&line[28..34]);
-        return header_with(definitions, spans, page, note, label);
+        let sheet = read_number(&line[28..34]);
+        let label = read_number(&line[35..41]);
+        return header_with(definitions, spans, page, note, sheet, label);
     }
     Header::Bad
 }

@@ -10,6 +10,7 @@ use borrow.Author.Tests.{eqb-true, not-true, leb-true, leb-false, lt-leb}
 use lib.ListN.{getD, getElem?}
 use lib.Dec.{leb}
 use Rattle.scan.proofs.Test.{by, and-left, and-right}
+use Rattle.texts.specs.Texts.{Texts}
 use Rattle.marking.proofs.Lists.{at-inside}
 use Rattle.note.specs.Reading.{spanRows}
 use Rattle.note.proofs.Placing.{at-getD}
@@ -70,37 +71,37 @@ still-passed false i j r = later (not (isCode r)) i j (textEnd r)
 pub still-behind : {code : Bool} {rows : List (List ℕ)} {cursor i j : ℕ} → Behind code rows cursor i → i ≤ j → Behind code rows cursor j
 still-behind {code} {i = i} {j = j} b h = record { passed = λ k r l e. still-passed code i j r h (b .passed k r l e) }
 
-module _ (s : List ℕ) (cursor i : ℕ) where
-  pub code-at-cursor : Next true (spanRows s) cursor i → firstRow (codeStarts i) (spanRows s) ≡ passing (codeStarts i) (getElem? (spanRows s) cursor)
-  code-at-cursor n = cursor-finds (codeStarts i) (spanRows s) cursor before after
+module _ (T : Texts) (cursor i : ℕ) where
+  pub code-at-cursor : Next true (spanRows T) cursor i → firstRow (codeStarts i) (spanRows T) ≡ passing (codeStarts i) (getElem? (spanRows T) cursor)
+  code-at-cursor n = cursor-finds (codeStarts i) (spanRows T) cursor before after
     where
-      before : (j : ℕ) (r : List ℕ) → j < cursor → getElem? (spanRows s) j ≡ some r → codeStarts i r ≡ true → ⊥
+      before : (j : ℕ) (r : List ℕ) → j < cursor → getElem? (spanRows T) j ≡ some r → codeStarts i r ≡ true → ⊥
       before j r l e t =
           let st : rowStart r ≡ i = eqb-true (rowStart r) i (and-right (isCode r) _ t) in
           absurd (omega (arith, code-passed i r (n .before .passed j r l e) (and-left (isCode r) _ t)))
 
-      after : (j : ℕ) (x r : List ℕ) → cursor < j → getElem? (spanRows s) cursor ≡ some x → getElem? (spanRows s) j ≡ some r → codeStarts i r ≡ true → ⊥
+      after : (j : ℕ) (x r : List ℕ) → cursor < j → getElem? (spanRows T) cursor ≡ some x → getElem? (spanRows T) j ≡ some r → codeStarts i r ≡ true → ⊥
       after j x r l d e t =
           let st : rowStart r ≡ i = eqb-true (rowStart r) i (and-right (isCode r) _ t) in
           let (c, h) = code-waits i x (n .there x d) in
-          absurd (omega (arith, rows-apart s cursor j x r l d e (c ∙ sym (and-left (isCode r) _ t)), row-some s x (cursor, d)))
+          absurd (omega (arith, rows-apart T cursor j x r l d e (c ∙ sym (and-left (isCode r) _ t)), row-some T x (cursor, d)))
 
-  module _ (n : Next false (spanRows s) cursor i) where
+  module _ (n : Next false (spanRows T) cursor i) where
     -- a link row that is not the one at the cursor neither starts nor has its text's end at i
-    before : (j : ℕ) (r : List ℕ) → j < cursor → getElem? (spanRows s) j ≡ some r → isCode r ≡ false → (rowStart r < i) × (textEnd r < i)
-    before j r l e c = let (u, v) = link-text s r (j, e) c in let p = link-passed i r (n .before .passed j r l e) c in (omega arith, p)
+    before : (j : ℕ) (r : List ℕ) → j < cursor → getElem? (spanRows T) j ≡ some r → isCode r ≡ false → (rowStart r < i) × (textEnd r < i)
+    before j r l e c = let (u, v) = link-text T r (j, e) c in let p = link-passed i r (n .before .passed j r l e) c in (omega arith, p)
 
-    after : (j : ℕ) (x r : List ℕ) → cursor < j → getElem? (spanRows s) cursor ≡ some x → getElem? (spanRows s) j ≡ some r → isCode r ≡ false → (i < rowStart r) × (i < textEnd r)
+    after : (j : ℕ) (x r : List ℕ) → cursor < j → getElem? (spanRows T) cursor ≡ some x → getElem? (spanRows T) j ≡ some r → isCode r ≡ false → (i < rowStart r) × (i < textEnd r)
     after j x r l d e c =
         let (c′, h) = link-waits i x (n .there x d) in
-        let a = rows-apart s cursor j x r l d e (c′ ∙ sym c) in
-        let (u, v) = link-text s r (j, e) c in
-        let (u′, v′) = link-text s x (cursor, d) c′ in
+        let a = rows-apart T cursor j x r l d e (c′ ∙ sym c) in
+        let (u, v) = link-text T r (j, e) c in
+        let (u′, v′) = link-text T x (cursor, d) c′ in
         (omega arith, omega arith)
 
-    pub opening-at-cursor : firstRow (linkStarts i) (spanRows s) ≡ passing (linkStarts i) (getElem? (spanRows s) cursor)
+    pub opening-at-cursor : firstRow (linkStarts i) (spanRows T) ≡ passing (linkStarts i) (getElem? (spanRows T) cursor)
     opening-at-cursor =
-        cursor-finds (linkStarts i) (spanRows s) cursor
+        cursor-finds (linkStarts i) (spanRows T) cursor
         (λ j r l e t.
         let st : rowStart r ≡ i = eqb-true (rowStart r) i (and-right (not (isCode r)) _ t) in
         absurd (omega (arith, before j r l e (not-true _ (and-left (not (isCode r)) _ t)) .0)))
@@ -108,9 +109,9 @@ module _ (s : List ℕ) (cursor i : ℕ) where
         let st : rowStart r ≡ i = eqb-true (rowStart r) i (and-right (not (isCode r)) _ t) in
         absurd (omega (arith, after j x r l d e (not-true _ (and-left (not (isCode r)) _ t)) .0)))
 
-    pub closing-at-cursor : firstRow (linkCloses i) (spanRows s) ≡ passing (linkCloses i) (getElem? (spanRows s) cursor)
+    pub closing-at-cursor : firstRow (linkCloses i) (spanRows T) ≡ passing (linkCloses i) (getElem? (spanRows T) cursor)
     closing-at-cursor =
-        cursor-finds (linkCloses i) (spanRows s) cursor
+        cursor-finds (linkCloses i) (spanRows T) cursor
         (λ j r l e t.
         let st : textEnd r ≡ i = eqb-true (textEnd r) i (and-right (not (isCode r)) _ t) in
         absurd (omega (arith, before j r l e (not-true _ (and-left (not (isCode r)) _ t)) .1)))

@@ -1,37 +1,42 @@
--- The reading is the law: `enquiryOf` is the one answer that document 01 admits.
+-- The reading is the law: `enquiryOf` is the one answer that documents 01 and 02 admit.
 use Prim.Native.Nat.{ℕ, suc, _≤_, _<_}
 use native.Mathlib.Nat.{add-zero}
 use native.Mathlib.Omega.{arith}
 use mathlib.Core.Path.{_≡_, refl, sym, ap, subst, _∙_}
-use mathlib.Core.Logic.{_↔_, _⊎_, inl, inr, ⊎-elim}
+use mathlib.Core.Logic.{_↔_, inl, inr, ⊎-elim}
 use mathlib.Core.List.{List, _∷_, _++_, List·Memᴰ·head, Memᴰ·append-right}
 use mathlib.Core.Bool.{true, false, true≢false}
 use lib.ListN.{length, getD, take, drop, take-append-drop, length-map}
 use lib.Seq.{length-take-le, drop-cons, getD-append-add}
-use Rattle.text.specs.Utf8.{GoodNote}
 use Rattle.scan.proofs.Test.{by, and-left, and-right}
 use Rattle.scan.specs.declared.Found.{Found}
 use Rattle.scan.specs.declared.Found.the-variants as found
-use Rattle.text.specs.declared.Checked.{Checked}
-use Rattle.text.specs.declared.Checked.the-variants as checked
-use Rattle.text.specs.Reading.{firstBad, checkOf}
-use Rattle.text.proofs.Refusals.{check-long, check-bad, refused-2, good-note}
+use Rattle.text.specs.Reading.{firstBad}
 use Rattle.text.proofs.FirstBad.{first-bad-nothing}
 use Rattle.text.proofs.Clean.{good-text}
+use Rattle.texts.specs.declared.Checked.{Checked}
+use Rattle.texts.specs.declared.Checked.the-variants as checked
+use Rattle.texts.specs.Texts.{Texts, texts, textOf}
+use Rattle.texts.specs.Answers.{GoodTexts}
+use Rattle.texts.specs.Reading.{checkOf}
+use Rattle.texts.proofs.Refusals.{check-long, check-bad, good-texts}
 use Rattle.label.specs.Reading.{isLabel}
 use Rattle.label.proofs.Label.{isLabel-iff}
-use Rattle.row.specs.declared.Definition.{Definition}
-use Rattle.row.specs.First.{bytesOf, labelsOf, FirstEqual}
+use Rattle.row.specs.Row.{Listed}
+use Rattle.row.specs.First.{bytesOf, labelsOf, past-end, FirstEqual}
 use Rattle.row.specs.Reading.{firstMatch}
 use Rattle.row.proofs.First.{first-equal, none-equal}
-use Rattle.definition.specs.Reading.{definitions, paragraphs}
-use Rattle.definition.proofs.Notes.{note-some, note-one}
+use Rattle.row.proofs.Turn.{other-text}
+use Rattle.definition.specs.Reading.{paragraphs}
 use Rattle.walk.proofs.Places.{Lies, definitions-lie}
+use Rattle.joined.specs.Reading.{joined}
+use Rattle.joined.proofs.Joined.{joined-some, joined-one}
+use Rattle.joined.proofs.Places.{each-entry}
 use Rattle.enquiry.specs.declared.Enquiry.{Enquiry}
 use Rattle.enquiry.specs.declared.Enquiry.the-variants as enquiry
-use Rattle.enquiry.specs.Answers.{NoLabel, GoodLabel, DefinitionsOf, NoDefinition, Defines, Answers}
+use Rattle.enquiry.specs.Answers.{NoLabel, GoodLabel, ListOf, NoDefinition, Defines, Answers}
 use Rattle.enquiry.specs.Answers as law
-use Rattle.enquiry.specs.Reading.{nowhere, goodLabel, answerBy, past-end, answerAt, answerIn, answerFor, checkedEnquiry, enquiryOf}
+use Rattle.enquiry.specs.Reading.{nowhere, goodLabel, answerBy, answerAt, answerIn, answerFor, checkedEnquiry, enquiryOf}
 
 -- ---- the label
 was-nowhere : (f : Found) → nowhere f ≡ true → f ≡ found.Nothing
@@ -58,103 +63,116 @@ module _ (label : List ℕ) where
     λ n. by (goodLabel label) (λ t. let g = good-label .0 t in absurd (⊎-elim (λ m. m (g .is-label)) (λ m. m (g .clean)) n)) (λ f. f),
   )
 
--- ---- the definitions
+-- ---- element k of a list, between those before it and those after it
+module _ {A : Type 0} (o : A) where
+  pub split-at : (l : List A) (k : ℕ) → k < length l → take k l ++ getD l k o ∷ drop (suc k) l ≡ l
+  split-at l k h = ap (λ (m : List A). take k l ++ m) (sym (drop-cons l k o h)) ∙ take-append-drop k l
 
-module _ (note : List ℕ) where
-  its-definitions : DefinitionsOf note (definitions note)
-  its-definitions = record { paragraphs = paragraphs note; read = note-some note }
+  pub at-split : (l : List A) (x : A) (more : List A) → getD (l ++ x ∷ more) (length l) o ≡ x
+  at-split l x more = rw add-zero at (getD-append-add l (x ∷ more) 0 o)
 
-  no-others : {ds : List Definition} → DefinitionsOf note ds → definitions note ≡ ds
-  no-others m = note-one note (note-some note) (m .read) .0
+-- ---- the joined list
+module _ (T : Texts) where
+  its-list : ListOf T (joined T)
+  its-list = record { paragraphs = paragraphs (T .note); joined = joined-some T }
 
-  pub defines-lies : {label : List ℕ} {d : Definition} → Defines note label d → Lies note d
-  defines-lies {d = d} m = definitions-lie note d (rw (no-others (m .all)) (Memᴰ·append-right (m .before) (List·Memᴰ·head refl)))
+  no-others : {js : List Listed} → ListOf T js → joined T ≡ js
+  no-others m = joined-one T (m .joined) .0
+
+  pub defines-lies : {label : List ℕ} {j : Listed} → Defines T label j → Lies (textOf T (j .text)) (j .definition)
+  defines-lies {j = j} m = each-entry T Lies definitions-lie j (rw (no-others (m .all)) (Memᴰ·append-right (m .before) (List·Memᴰ·head refl)))
 
   module _ (label : List ℕ) where
-    search-none : NoDefinition note label → answerFor note label ≡ enquiry.Undefined
+    search-none : NoDefinition T label → answerFor T label ≡ enquiry.Undefined
     unfolding answerFor answerIn
-    search-none m = rw (no-others (m .all), none-equal (labelsOf note (m .definitions)) label .1 (m .none))
+    search-none m = rw (no-others (m .all), none-equal (labelsOf T (m .list)) label .1 (m .none))
 
-    search-first : {d : Definition} → Defines note label d → answerFor note label ≡ answerBy d
+    search-first : {j : Listed} → Defines T label j → answerFor T label ≡ answerBy j
     unfolding answerFor answerIn
-    search-first {d} m =
-        let ds = m .before ++ d ∷ m .after in
-        let e : getD ds (length (m .before)) past-end ≡ d = rw add-zero at (getD-append-add (m .before) (d ∷ m .after) 0 past-end) in
-        rw (no-others (m .all), first-equal (labelsOf note ds) label (length (m .before)) .1 (m .first)) (ap answerBy e)
+    search-first {j} m =
+        rw (no-others (m .all), first-equal (labelsOf T (m .before ++ j ∷ m .after)) label (length (m .before)) .1 (m .first))
+        (ap answerBy (at-split past-end (m .before) j (m .after)))
 
-    -- definition k, between those before it and those after it
-    first-defines : (k : ℕ) → FirstEqual (labelsOf note (definitions note)) label k → Defines note label (getD (definitions note) k past-end)
+    first-defines : (k : ℕ) → FirstEqual (labelsOf T (joined T)) label k → Defines T label (getD (joined T) k past-end)
     first-defines k f =
-        let ds = definitions note in
-        let h : k < length ds = omega (arith, f .within, length-map ds (λ (d : Definition). bytesOf note (d .label))) in
-        let split : take k ds ++ getD ds k past-end ∷ drop (suc k) ds ≡ ds = ap (λ (l : List Definition). take k ds ++ l) (sym (drop-cons ds k past-end h)) ∙ take-append-drop k ds in
-        let size : length (take k ds) ≡ k = length-take-le k ds (omega arith) in
+        let js = joined T in
+        let h : k < length js = omega (arith, f .within, length-map js (λ (j : Listed). bytesOf (textOf T (j .text)) (j .definition .label))) in
+        let split = split-at past-end js k h in
+        let size : length (take k js) ≡ k = length-take-le k js (omega arith) in
         record {
-          before = take k ds;
-          after = drop (suc k) ds;
-          all = subst (DefinitionsOf note) (sym split) its-definitions;
-          first = subst (λ (l : List Definition). FirstEqual (labelsOf note l) label (length (take k ds))) (sym split) (rw size f);
+          before = take k js;
+          after = drop (suc k) js;
+          all = subst (ListOf T) (sym split) its-list;
+          first = subst (λ (l : List Listed). FirstEqual (labelsOf T l) label (length (take k js))) (sym split) (rw size f);
         }
 
-    module _ (g : GoodNote note) (l : GoodLabel label) where
-      searched : (f : Found) → firstMatch (labelsOf note (definitions note)) label ≡ f → Answers note label (answerAt (definitions note) f)
-      searched (found.At k) q = law.destination (g, l, first-defines k (first-equal (labelsOf note (definitions note)) label k .0 q))
-      searched found.Nothing q =
-          law.undefined (g, l, record { definitions = definitions note; all = its-definitions; none = none-equal (labelsOf note (definitions note)) label .0 q })
+    module _ (g : GoodTexts T) (l : GoodLabel label) where
+      searched : (f : Found) → firstMatch (labelsOf T (joined T)) label ≡ f → Answers T label (answerAt (joined T) f)
+      searched (found.At k) q = law.destination (g, l, first-defines k (first-equal (labelsOf T (joined T)) label k .0 q))
+      searched found.Nothing q = law.undefined (g, l, record { list = joined T; all = its-list; none = none-equal (labelsOf T (joined T)) label .0 q })
 
-      good-answer : Answers note label (answerFor note label)
+      good-answer : Answers T label (answerFor T label)
       unfolding answerFor answerIn
-      good-answer = searched (firstMatch (labelsOf note (definitions note)) label) refl
+      good-answer = searched (firstMatch (labelsOf T (joined T)) label) refl
 
 -- ---- the answer
-module _ (note label : List ℕ) where
-  by-check : (x : Checked) → checkOf note ≡ x → Answers note label (checkedEnquiry note label x)
-  by-check (checked.Long n) q = let (h, s) = check-long note n .0 q in subst (λ (m : ℕ). Answers note label (enquiry.Long m)) s (law.long h)
-  by-check (checked.Bad k) q = let (h, b) = check-bad note k .0 q in law.bad (h, refused-2 note .0 (k, q) .1) b
+module _ (T : Texts) (label : List ℕ) where
+  by-check : (x : Checked) → checkOf T ≡ x → Answers T label (checkedEnquiry T label x)
+  by-check (checked.Long k n) q = let (d, s) = check-long T k n .0 q in subst (λ (m : ℕ). Answers T label (enquiry.Long k m)) s (law.long d)
+  by-check (checked.Bad k p) q = let (d, b) = check-bad T k p .0 q in law.bad d b
   by-check checked.Good q =
-      let g = good-note note .0 q in
+      let g = good-texts T .0 q in
       by (goodLabel label)
-      (λ t. rw t (good-answer note label g (good-label label .0 t)))
+      (λ t. rw t (good-answer T label g (good-label label .0 t)))
       (λ f. rw f (law.not-label (g, no-label label .0 f)))
 
-  pub answers : Answers note label (enquiryOf note label)
+  pub answers : Answers T label (enquiryOf T label)
   unfolding enquiryOf
-  answers = by-check (checkOf note) refl
+  answers = by-check (checkOf T) refl
 
-  with-label : GoodNote note → GoodLabel label → enquiryOf note label ≡ answerFor note label
+  pub with-label : GoodTexts T → GoodLabel label → enquiryOf T label ≡ answerFor T label
   unfolding enquiryOf
-  with-label g l = rw (good-note note .1 g, good-label label .1 l)
+  with-label g l = rw (good-texts T .1 g, good-label label .1 l)
 
-  without-label : GoodNote note → NoLabel label → enquiryOf note label ≡ enquiry.NotLabel
+  without-label : GoodTexts T → NoLabel label → enquiryOf T label ≡ enquiry.NotLabel
   unfolding enquiryOf
-  without-label g n = rw (good-note note .1 g, no-label label .1 n)
+  without-label g n = rw (good-texts T .1 g, no-label label .1 n)
 
-  pub determined : {e : Enquiry} → Answers note label e → enquiryOf note label ≡ e
+  pub determined : {e : Enquiry} → Answers T label e → enquiryOf T label ≡ e
   unfolding enquiryOf
-  determined (law.long h) = ap (checkedEnquiry note label) (check-long note (length note) .1 (h, refl))
-  determined (law.bad {k} (h, u) b) = ap (checkedEnquiry note label) (check-bad note k .1 (h, b))
+  determined (law.long {k} d) = ap (checkedEnquiry T label) (check-long T k (length (textOf T k)) .1 (d, refl))
+  determined (law.bad {k} {place} d b) = ap (checkedEnquiry T label) (check-bad T k place .1 (d, b))
   determined (law.not-label (g, n)) = without-label g n
-  determined (law.undefined (g, l, n)) = with-label g l ∙ search-none note label n
-  determined (law.destination (g, l, m)) = with-label g l ∙ search-first note label m
+  determined (law.undefined (g, l, n)) = with-label g l ∙ search-none T label n
+  determined (law.destination (g, l, m)) = with-label g l ∙ search-first T label m
 
-  pub enquiry-iff : (e : Enquiry) → (enquiryOf note label ≡ e) ↔ Answers note label e
-  enquiry-iff e = (λ q. subst (Answers note label) q answers, determined)
+  pub enquiry-iff : (e : Enquiry) → (enquiryOf T label ≡ e) ↔ Answers T label e
+  enquiry-iff e = (λ q. subst (Answers T label) q answers, determined)
 
--- ---- the part lies within the note
-place-within : {note label : List ℕ} {e : Enquiry} {a z : ℕ} → Answers note label e → e ≡ enquiry.Destination a z → (a ≤ z) × (z ≤ length note)
+-- ---- the part lies within its text
+place-within : {T : Texts} {label : List ℕ} {e : Enquiry} {k a z : ℕ} → Answers T label e → e ≡ enquiry.Destination k a z → (a ≤ z) × (z ≤ length (textOf T k))
 place-within (law.long w) q = let no : _≡_ {A = ℕ} 0 1 = cc in absurd (omega arith)
 place-within (law.bad w b) q = let no : _≡_ {A = ℕ} 0 1 = cc in absurd (omega arith)
 place-within (law.not-label w) q = let no : _≡_ {A = ℕ} 0 1 = cc in absurd (omega arith)
 place-within (law.undefined w) q = let no : _≡_ {A = ℕ} 0 1 = cc in absurd (omega arith)
-place-within {note} {a = a} {z = z} (law.destination {d} (g, l, m)) q =
-    let p = defines-lies note m .places in
-    let s : d .destination .start ≡ a = cc in
-    let t : d .destination .end ≡ z = cc in
-    (omega (arith, p .destination), omega (arith, p .ends, p .inside))
+place-within {T} {k = k} {a = a} {z = z} (law.destination {j} (g, l, m)) q =
+    let p = defines-lies T m .places in
+    let t : j .text ≡ k = cc in
+    let s : j .definition .destination .start ≡ a = cc in
+    let u : j .definition .destination .end ≡ z = cc in
+    let inside : j .definition .destination .end ≤ length (textOf T (j .text)) = omega (arith, p .ends, p .inside) in
+    (omega (arith, p .destination), subst (λ (i : ℕ). z ≤ length (textOf T i)) t (rw u at inside))
 
-module _ (note label : List ℕ) {e : Enquiry} (answer : e ≡ enquiryOf note label) {a z : ℕ} (q : e ≡ enquiry.Destination a z) where
+module _ (T : Texts) (label : List ℕ) {e : Enquiry} (answer : e ≡ enquiryOf T label) {k a z : ℕ} (q : e ≡ enquiry.Destination k a z) where
   pub part-ordered : a ≤ z
-  part-ordered = place-within (answers note label) (sym answer ∙ q) .0
+  part-ordered = place-within (answers T label) (sym answer ∙ q) .0
 
-  pub part-inside : z ≤ length note
-  part-inside = place-within (answers note label) (sym answer ∙ q) .1
+  pub part-inside : z ≤ length (textOf T k)
+  part-inside = place-within (answers T label) (sym answer ∙ q) .1
+
+module _ (note sheet label : List ℕ) {e : Enquiry} (answer : e ≡ enquiryOf (texts note sheet) label) {k a z : ℕ} (q : e ≡ enquiry.Destination k a z) where
+  pub inside-note : k ≡ 0 → z ≤ length note
+  inside-note i = subst (λ (n : ℕ). z ≤ length (textOf (texts note sheet) n)) i (part-inside (texts note sheet) label answer q)
+
+  pub inside-sheet : (k ≡ 0 → ⊥) → z ≤ length sheet
+  inside-sheet i = rw (other-text (texts note sheet) k i) (part-inside (texts note sheet) label answer q)

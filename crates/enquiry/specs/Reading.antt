@@ -1,21 +1,25 @@
--- The enquiry's answer, by reading the note, the label and the note's definitions.
+-- The enquiry's answer, by reading the two texts, the label and the texts' definitions.
 use Prim.Native.Nat.{ℕ}
 use mathlib.Core.List.{List}
 use mathlib.Core.Bool.{Bool, true, false, _&&_}
 use lib.ListN.{getD}
 use Rattle.scan.specs.declared.Found.{Found}
 use Rattle.scan.specs.declared.Found.the-variants as found
-use Rattle.text.specs.declared.Checked.{Checked}
-use Rattle.text.specs.declared.Checked.the-variants as checked
-use Rattle.text.specs.Reading.{firstBad, checkOf}
+use Rattle.text.specs.Reading.{firstBad}
+use Rattle.texts.specs.declared.Checked.{Checked}
+use Rattle.texts.specs.declared.Checked.the-variants as checked
+use Rattle.texts.specs.Texts.{Texts}
+use Rattle.texts.specs.Reading.{checkOf}
 use Rattle.label.specs.Reading.{isLabel}
-use Rattle.row.specs.declared.Definition.{Definition}
-use Rattle.row.specs.Row.{absent, definition}
-use Rattle.row.specs.First.{labelsOf}
+use Rattle.row.specs.Row.{Listed}
+use Rattle.row.specs.First.{labelsOf, past-end}
 use Rattle.row.specs.Reading.{firstMatch}
 use Rattle.definition.specs.Reading.{definitions}
+use Rattle.joined.specs.Joined.{listedIn}
+use Rattle.joined.specs.Reading.{joined}
 use Rattle.enquiry.specs.declared.Enquiry.{Enquiry}
 use Rattle.enquiry.specs.declared.Enquiry.the-variants as enquiry
+use Rattle.enquiry.specs.Answers.{ownLabels}
 
 -- no bad character was found
 abbrev pub nowhere : Found → Bool
@@ -26,36 +30,36 @@ nowhere found.Nothing = true
 unfoldable pub goodLabel : List ℕ → Bool
 goodLabel label = isLabel label && nowhere (firstBad label 0)
 
--- the answer that d gives
-abbrev pub answerBy : Definition → Enquiry
-answerBy d = enquiry.Destination (d .destination .start) (d .destination .end)
+-- the answer that j gives
+abbrev pub answerBy : Listed → Enquiry
+answerBy j = enquiry.Destination (j .text) (j .definition .destination .start) (j .definition .destination .end)
 
--- stands for what lies past the end of a list of definitions
-abbrev pub past-end : Definition
-past-end = definition absent absent absent
+-- the destination of entry k of these
+abbrev pub answerAt : List Listed → Found → Enquiry
+answerAt js (found.At k) = answerBy (getD js k past-end)
+answerAt js found.Nothing = enquiry.Undefined
 
--- the destination of definition k of these
-abbrev pub answerAt : List Definition → Found → Enquiry
-answerAt ds (found.At k) = answerBy (getD ds k past-end)
-answerAt ds found.Nothing = enquiry.Undefined
+-- what the first of these entries with an equal label gives, where their labels are ls
+unfoldable pub answerIn : List (List ℕ) → List ℕ → List Listed → Enquiry
+answerIn ls label js = answerAt js (firstMatch ls label)
 
--- what the first of these definitions with an equal label gives
-unfoldable pub answerIn : List ℕ → List ℕ → List Definition → Enquiry
-answerIn note label ds = answerAt ds (firstMatch (labelsOf note ds) label)
+-- what the text s by itself gives, where it has the number k
+unfoldable pub answerOf : ℕ → List ℕ → List ℕ → Enquiry
+answerOf k s label = answerIn (ownLabels s (definitions s)) label (listedIn k (definitions s))
 
-unfoldable pub answerFor : List ℕ → List ℕ → Enquiry
-answerFor note label = answerIn note label (definitions note)
+unfoldable pub answerFor : Texts → List ℕ → Enquiry
+answerFor T label = answerIn (labelsOf T (joined T)) label (joined T)
 
--- the answer for a good note, by whether the label is good
-abbrev pub labelledEnquiry : List ℕ → List ℕ → Bool → Enquiry
-labelledEnquiry note label true = answerFor note label
-labelledEnquiry note label false = enquiry.NotLabel
+-- the answer for good texts, by whether the label is good
+abbrev pub labelledEnquiry : Texts → List ℕ → Bool → Enquiry
+labelledEnquiry T label true = answerFor T label
+labelledEnquiry T label false = enquiry.NotLabel
 
--- the answer by what the note's check tells
-abbrev pub checkedEnquiry : List ℕ → List ℕ → Checked → Enquiry
-checkedEnquiry note label (checked.Long n) = enquiry.Long n
-checkedEnquiry note label (checked.Bad k) = enquiry.Bad k
-checkedEnquiry note label checked.Good = labelledEnquiry note label (goodLabel label)
+-- the answer by what the texts' check tells
+abbrev pub checkedEnquiry : Texts → List ℕ → Checked → Enquiry
+checkedEnquiry T label (checked.Long k n) = enquiry.Long k n
+checkedEnquiry T label (checked.Bad k p) = enquiry.Bad k p
+checkedEnquiry T label checked.Good = labelledEnquiry T label (goodLabel label)
 
-unfoldable pub enquiryOf : List ℕ → List ℕ → Enquiry
-enquiryOf note label = checkedEnquiry note label (checkOf note)
+unfoldable pub enquiryOf : Texts → List ℕ → Enquiry
+enquiryOf T label = checkedEnquiry T label (checkOf T)

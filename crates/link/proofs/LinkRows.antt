@@ -11,7 +11,7 @@ use Rattle.marking.specs.Spans.{linkSpan}
 use Rattle.row.specs.declared.Range.{Range}
 use Rattle.row.specs.declared.Definition.{Definition}
 use Rattle.row.specs.Row.{range, absent}
-use Rattle.row.specs.Reading.{definitionAt, definitionsFrom}
+use Rattle.row.specs.Reading.{definitionAt, listedFrom, definitionsFrom}
 use Rattle.span.specs.declared.Span.{Span}
 use Rattle.span.specs.Row.{span, Small}
 use Rattle.inline.specs.Tails.{Tail, lengthOf}
@@ -35,7 +35,7 @@ module _ (start at : ℕ) (r : Range) where
 
 -- ---- the definition in a row
 pub definition-in : (t : List ℕ) (k n i : ℕ) (d : Definition) → i < n → getD (definitionsFrom t k n) i d ≡ definitionAt t (k + i)
-unfolding definitionsFrom
+unfolding listedFrom
 definition-in t k zero i d h = absurd (omega arith)
 definition-in t k (suc n) zero d h = ap (definitionAt t) (sym (add-zero k))
 definition-in t k (suc n) (suc i) d h = definition-in t (k + 1) n i d (omega arith) ∙ ap (definitionAt t) (omega arith)

@@ -13,11 +13,12 @@ use Rattle.marking.specs.Marking.{Marking}
 use Rattle.marking.specs.Open.{NeverOver, FirstOver}
 use Rattle.marking.specs.ReadingSpans.{over}
 use Rattle.marking.proofs.Over.{first-over-unique}
+use Rattle.texts.specs.Texts.{Texts}
 use Rattle.block.specs.Block.{Placed}
-use Rattle.row.specs.declared.Definition.{Definition}
+use Rattle.row.specs.Row.{Listed}
 use Rattle.row.specs.First.{labelsOf}
-use Rattle.definition.specs.Reading.{definitions, paragraphs}
-use Rattle.definition.proofs.Notes.{note-iff}
+use Rattle.definition.specs.Reading.{paragraphs}
+use Rattle.joined.proofs.Joined.{joined-one}
 use Rattle.inline.specs.Tails.{Tail}
 use Rattle.inline.specs.Reading.{grammar}
 use Rattle.inline.proofs.Demand3.{first-bracket-too-many, never-too-many}
@@ -70,23 +71,23 @@ deep-later q {ps} m {ms} n f =
     before zero m′ h e = subst (NeverOver depthLimit) (Option·some-injective m m′ e) n
     before (suc k) m′ h e = f .none-before k m′ (omega arith) e
 
-module _ (s : List ℕ) (ds : List Definition) where
+module _ (T : Texts) (js : List Listed) where
   abbrev overIn : Placed → Option ℕ
-  overIn q = over depthLimit (grammar (q .bytes) (labelsOf s ds))
+  overIn q = over depthLimit (grammar (q .bytes) (labelsOf T js))
 
   module _ (q : Placed) (ps : List Placed) (m : Marking Tail) (ms : List (Marking Tail)) where
     others : (o : Option ℕ) → NeverOver depthLimit m → Told ps ms o → Told (q ∷ ps) (m ∷ ms) o
     others none n r = never-cons m ms n r
     others (some place) n r = deep-later q m n r
 
-    with-first : MarkingOf s ds q m → (o later : Option ℕ) → overIn q ≡ o → Told ps ms later → Told (q ∷ ps) (m ∷ ms) (placeOr (q .at) o later)
-    with-first h none later e r = others later (never-too-many (q .bytes) (labelsOf s ds) m h depthLimit .0 e) r
-    with-first h (some p) later e r = deep-here q ps m ms p (first-bracket-too-many (q .bytes) (labelsOf s ds) m h depthLimit p .0 e)
+    with-first : MarkingOf T js q m → (o later : Option ℕ) → overIn q ≡ o → Told ps ms later → Told (q ∷ ps) (m ∷ ms) (placeOr (q .at) o later)
+    with-first h none later e r = others later (never-too-many (q .bytes) (labelsOf T js) m h depthLimit .0 e) r
+    with-first h (some p) later e r = deep-here q ps m ms p (first-bracket-too-many (q .bytes) (labelsOf T js) m h depthLimit p .0 e)
 
-  says : {ps : List Placed} {ms : List (Marking Tail)} → MarkingsAre s ds ps ms → Told ps ms (deepIn (labelsOf s ds) ps)
+  says : {ps : List Placed} {ms : List (Marking Tail)} → MarkingsAre T js ps ms → Told ps ms (deepIn (labelsOf T js) ps)
   unfolding deepIn
   says Forall₂·nil = λ k m e. absurd (Option·none-ne-some m e)
-  says (Forall₂·cons {a = q} {b = m} {l₁ = ps} {l₂ = ms} h t) = with-first q ps m ms h (overIn q) (deepIn (labelsOf s ds) ps) refl (says t)
+  says (Forall₂·cons {a = q} {b = m} {l₁ = ps} {l₂ = ms} h t) = with-first q ps m ms h (overIn q) (deepIn (labelsOf T js) ps) refl (says t)
 
 -- ---- there is one first bracket too many, or none
 not-both : (m : Marking Tail) (p : ℕ) → FirstOver depthLimit m p → NeverOver depthLimit m → ⊥
@@ -118,22 +119,22 @@ module _ (ps : List Placed) (ms : List (Marking Tail)) where
   to-none none r n = refl
   to-none (some place) f n = absurd (not-both (f .marking) (f .within) (f .too-many) (n (f .index) (f .marking) (f .marking-at)))
 
-module _ (s : List ℕ) where
+module _ (T : Texts) where
   -- what is read, for any list of markings of the note
-  told : (n : Marked s) → Told (n .paragraphs) (n .markings) (firstDeep s)
+  told : (n : Marked T) → Told (n .paragraphs) (n .markings) (firstDeep T)
   unfolding firstDeep labels
   told n =
-      let (d, p) = note-iff s (n .definitions) (n .paragraphs) .1 (n .note) in
-      rw (d, p) (says s (n .definitions) (n .each))
+      let (d, p) = joined-one T (n .joined) in
+      rw (d, p) (says T (n .list) (n .each))
 
-  pub first-deep-iff : (place : ℕ) → (firstDeep s ≡ some place) ↔ FirstDeep s place
+  pub first-deep-iff : (place : ℕ) → (firstDeep T ≡ some place) ↔ FirstDeep T place
   first-deep-iff place = (
-    (λ e. record { marked = marked s; first = subst (Told (marked s .paragraphs) (marked s .markings)) e (told (marked s)) }),
-    (λ f. to-place (f .marked .paragraphs) (f .marked .markings) (firstDeep s) (told (f .marked)) place (f .first)),
+    (λ e. record { marked = marked T; first = subst (Told (marked T .paragraphs) (marked T .markings)) e (told (marked T)) }),
+    (λ f. to-place (f .marked .paragraphs) (f .marked .markings) (firstDeep T) (told (f .marked)) place (f .first)),
   )
 
-  pub never-deep-iff : (firstDeep s ≡ none) ↔ NeverDeep s
+  pub never-deep-iff : (firstDeep T ≡ none) ↔ NeverDeep T
   never-deep-iff = (
-    (λ e. record { marked = marked s; never = subst (Told (marked s .paragraphs) (marked s .markings)) e (told (marked s)) }),
-    (λ n. to-none (n .marked .paragraphs) (n .marked .markings) (firstDeep s) (told (n .marked)) (n .never)),
+    (λ e. record { marked = marked T; never = subst (Told (marked T .paragraphs) (marked T .markings)) e (told (marked T)) }),
+    (λ n. to-none (n .marked .paragraphs) (n .marked .markings) (firstDeep T) (told (n .marked)) (n .never)),
   )

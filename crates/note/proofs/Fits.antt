@@ -1,20 +1,23 @@
--- Every span row has eleven numbers; its places lie within the note, its definition number is that of a definition, and its line that of its start.
+-- Every span row has eleven numbers; its places lie within their texts, its definition number is that of a definition, and its line that of its start.
 use Prim.Native.Nat.{ℕ, _+_, _≤_, _<_}
 use native.Mathlib.Omega.{arith}
-use mathlib.Core.Path.{refl, sym, subst}
+use mathlib.Core.Path.{_≡_, refl, sym, ap, subst}
 use mathlib.Core.Option.{Option, none, some}
 use mathlib.Core.List.{List}
 use lib.ListN.{length, getD, length-map}
 use Rattle.marking.specs.Marking.{Marking}
 use Rattle.scan.specs.Member.{In}
 use Rattle.marking.specs.Spans.{Span, codeSpan, linkSpan, SpanOf}
+use Rattle.texts.specs.Texts.{Texts, textOf}
 use Rattle.block.specs.Block.{Placed}
 use Rattle.row.specs.declared.Range.{Range}
-use Rattle.row.specs.declared.Definition.{Definition}
-use Rattle.row.specs.Row.{absent, definition}
-use Rattle.row.specs.First.{bytesOf, labelsOf}
-use Rattle.definition.specs.Reading.{definitions}
+use Rattle.row.specs.Row.{absent, Listed, definitionsOf}
+use Rattle.row.specs.First.{bytesOf, labelsOf, past-end, namedText}
 use Rattle.definition.proofs.NotePlaces.{Inside, definitions-inside}
+use Rattle.definition.proofs.Places.{Numbers}
+use Rattle.joined.specs.Reading.{joined}
+use Rattle.joined.proofs.Places.{entry-at}
+use Rattle.span.specs.Row.{definitionNumber}
 use Rattle.inline.specs.Tails.{Tail, inline, full, collapsed, shortcut}
 use Rattle.inline.specs.Rows.{Target, defined, targetOf, fromNote?}
 use Rattle.inline.specs.Claims.{RowWithin, PartBetween}
@@ -23,8 +26,8 @@ use Rattle.inline.proofs.SpanBounds.{inline-parts-within, number-defined}
 use Rattle.note.specs.Note.{MarkingOf}
 use Rattle.note.specs.Claims.{RowFits}
 use Rattle.note.specs.Reading.{spanRows}
-use Rattle.note.proofs.Members.{at-member}
-use Rattle.note.proofs.Placing.{from-span, at-getD}
+use Rattle.note.proofs.Named.{defined-at, named-at}
+use Rattle.note.proofs.Placing.{from-span}
 
 -- both places of a part are at most n
 record PartFits (n : ℕ) (r : Range) : Type 0 where
@@ -44,41 +47,49 @@ part-fits : (offset lo hi n : ℕ) (r : Option Range) → offset + hi ≤ n → 
 part-fits offset lo hi n none h p = absent-fits n
 part-fits offset lo hi n (some r) h p = record { start = omega (arith, p .1, p .2); end = omega (arith, p .2) }
 
-module _ (s : List ℕ) where
-  defined-fits : (k : ℕ) → k + 1 ≤ length (labelsOf s (definitions s)) → TargetFits (length s) (length (definitions s)) (defined (definitions s) k)
+-- the places of a target that names no definition, and of one that does
+module _ (T : Texts) where
+  abbrev room : Target → ℕ
+  room t = length (namedText T (joined T) (t .number))
+
+  abbrev Fits : Target → Type 0
+  Fits t = TargetFits (room t) (length (joined T)) t
+
+  defined-fits : (k : ℕ) → k + 1 ≤ length (labelsOf T (joined T)) → Fits (defined (definitionsOf (joined T)) k)
   defined-fits k f =
-      let ds = definitions s in
-      let h : k < length ds = omega (arith, length-map ds (λ (d : Definition). bytesOf s (d .label))) in
-      let x : Definition = getD ds k (definition absent absent absent) in
-      let n = definitions-inside s x (at-member ds k x (at-getD ds k (definition absent absent absent) h)) in
-      record {
+      let h : k < length (joined T) = omega (arith, length-map (joined T) (λ (j : Listed). bytesOf (textOf T (j .text)) (j .definition .label))) in
+      let j = getD (joined T) k past-end in
+      let n = entry-at T Numbers definitions-inside k h in
+      let size : length (namedText T (joined T) (definitionNumber k)) ≡ length (textOf T (j .text)) = ap length (named-at T (joined T) k) in
+      rw (defined-at (joined T) k)
+      (record {
         number = omega arith;
-        destination = record { start = n .destination-start; end = n .destination-end };
-        title = record { start = n .title-start; end = n .title-end };
-      }
+        destination = record { start = omega (arith, size, n .destination-start); end = omega (arith, size, n .destination-end) };
+        title = record { start = omega (arith, size, n .title-start); end = omega (arith, size, n .title-end) };
+      })
 
-  module _ (q : Placed) (w : Inside s q) (m : Marking Tail) (c : MarkingOf s (definitions s) q m) where
+  module _ (q : Placed) (w : Inside (T .note) q) (m : Marking Tail) (c : MarkingOf T (joined T) q m) where
     abbrev row : Span Tail → List ℕ
-    row x = spanRow s (q .at) (q .bytes) (definitions s) x
+    row x = spanRow (T .note) (q .at) (q .bytes) (definitionsOf (joined T)) x
 
-    abbrev numbered : (x : Span Tail) → SpanOf m x → targetOf (q .at) (definitions s) x .number ≤ length (labelsOf s (definitions s))
-    numbered = number-defined (q .bytes) (labelsOf s (definitions s)) m c (q .at) (definitions s)
+    abbrev numbered : (x : Span Tail) → SpanOf m x → targetOf (q .at) (definitionsOf (joined T)) x .number ≤ length (labelsOf T (joined T))
+    numbered = number-defined (q .bytes) (labelsOf T (joined T)) m c (q .at) (definitionsOf (joined T))
 
-    target-fits : (x : Span Tail) → SpanOf m x → RowWithin (q .at) (length (q .bytes)) (row x) → TargetFits (length s) (length (definitions s)) (targetOf (q .at) (definitions s) x)
-    target-fits (codeSpan p) y r = record { number = omega arith; destination = absent-fits (length s); title = absent-fits (length s) }
+    target-fits : (x : Span Tail) → SpanOf m x → RowWithin (q .at) (length (q .bytes)) (row x) → Fits (targetOf (q .at) (definitionsOf (joined T)) x)
+    target-fits (codeSpan p) y r = record { number = omega arith; destination = absent-fits (length (T .note)); title = absent-fits (length (T .note)) }
     target-fits (linkSpan o d (inline n a b)) y r =
-        let (l, t) = inline-parts-within (q .bytes) (labelsOf s (definitions s)) m c o d n a b y in
-        let h : q .at + (d .end + n) ≤ length s = omega (arith, w .inside, r .to) in
+        let (l, t) = inline-parts-within (q .bytes) (labelsOf T (joined T)) m c o d n a b y in
+        let h : q .at + (d .end + n) ≤ length (T .note) = omega (arith, w .inside, r .to) in
         record {
           number = omega arith;
-          destination = part-fits (q .at) (d .end) (d .end + n) (length s) a h l;
-          title = part-fits (q .at) (d .end) (d .end + n) (length s) b h t;
+          destination = part-fits (q .at) (d .end) (d .end + n) (length (T .note)) a h l;
+          title = part-fits (q .at) (d .end) (d .end + n) (length (T .note)) b h t;
         }
     target-fits (linkSpan o d (full n k)) y r = defined-fits k (numbered (linkSpan o d (full n k)) y)
     target-fits (linkSpan o d (collapsed k)) y r = defined-fits k (numbered (linkSpan o d (collapsed k)) y)
     target-fits (linkSpan o d (shortcut k)) y r = defined-fits k (numbered (linkSpan o d (shortcut k)) y)
 
-    span-fits : (x : Span Tail) → SpanOf m x → RowWithin (q .at) (length (q .bytes)) (row x) → RowFits s (definitions s) (row x)
+    span-fits : (x : Span Tail) → SpanOf m x → RowWithin (q .at) (length (q .bytes)) (row x) → RowFits T (joined T) (row x)
     span-fits x y r =
         let t = target-fits x y r in
         record {
@@ -95,9 +106,9 @@ module _ (s : List ℕ) where
           line = refl;
         }
 
-  pub rows-fit : (row : List ℕ) → In row (spanRows s) → RowFits s (definitions s) row
+  pub rows-fit : (row : List ℕ) → In row (spanRows T) → RowFits T (joined T) row
   rows-fit row i =
-      let f = from-span s row i in
+      let f = from-span T row i in
       let q = f .paragraph in
-      subst (RowFits s (definitions s)) (f .row-is)
+      subst (RowFits T (joined T)) (f .row-is)
       (span-fits q (f .inside) (f .marking) (f .meets) (f .span) (f .of-marking) (subst (RowWithin (q .at) (length (q .bytes))) (sym (f .row-is)) (f .within)))

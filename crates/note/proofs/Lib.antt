@@ -9,6 +9,7 @@ pub mod Spans
 pub mod Order
 pub mod EachRow
 -- what a row says: places, and the definition of a reference
+pub mod Named
 pub mod Placing
 pub mod Fits
 pub mod References

@@ -3,11 +3,13 @@ use Prim.Native.Nat.{ℕ}
 use mathlib.Core.Path.{_≡_, refl, sym, ap₂, _∙_}
 use mathlib.Core.List.{List, [], _∷_, map, Forall₂·nil, Forall₂·cons}
 use Rattle.marking.specs.Marking.{Marking}
+use Rattle.texts.specs.Texts.{Texts}
 use Rattle.block.specs.Block.{Placed}
-use Rattle.row.specs.declared.Definition.{Definition}
+use Rattle.row.specs.Row.{Listed}
 use Rattle.row.specs.First.{labelsOf}
-use Rattle.definition.specs.Reading.{definitions, paragraphs}
-use Rattle.definition.proofs.Notes.{note-iff, note-some}
+use Rattle.definition.specs.Reading.{paragraphs}
+use Rattle.joined.specs.Reading.{joined}
+use Rattle.joined.proofs.Joined.{joined-some, joined-one}
 use Rattle.inline.specs.Tails.{Tail}
 use Rattle.inline.proofs.Demand3.{exactly-one-marking, the-marking, the-marking-meets, no-other-marking}
 use Rattle.note.specs.Note.{MarkingsAre, Marked}
@@ -16,37 +18,37 @@ use Rattle.note.specs.Claims.{OneMarkingEach}
 abbrev pub markingsIn : List (List ℕ) → List Placed → List (Marking Tail)
 markingsIn ls = map (λ q. the-marking (q .bytes) ls)
 
-module _ (s : List ℕ) (ds : List Definition) where
-  pub markings-meet : (ps : List Placed) → MarkingsAre s ds ps (markingsIn (labelsOf s ds) ps)
+module _ (T : Texts) (js : List Listed) where
+  pub markings-meet : (ps : List Placed) → MarkingsAre T js ps (markingsIn (labelsOf T js) ps)
   markings-meet [] = Forall₂·nil
-  markings-meet (q ∷ ps) = Forall₂·cons (the-marking-meets (q .bytes) (labelsOf s ds)) (markings-meet ps)
+  markings-meet (q ∷ ps) = Forall₂·cons (the-marking-meets (q .bytes) (labelsOf T js)) (markings-meet ps)
 
-  pub no-other-markings : {ps : List Placed} {ms : List (Marking Tail)} → MarkingsAre s ds ps ms → ms ≡ markingsIn (labelsOf s ds) ps
+  pub no-other-markings : {ps : List Placed} {ms : List (Marking Tail)} → MarkingsAre T js ps ms → ms ≡ markingsIn (labelsOf T js) ps
   no-other-markings Forall₂·nil = refl
-  no-other-markings (Forall₂·cons {a = q} {b = m} h t) = ap₂ {A = Marking Tail} {B = List (Marking Tail)} {C = List (Marking Tail)} _∷_ (no-other-marking (q .bytes) (labelsOf s ds) m h) (no-other-markings t)
+  no-other-markings (Forall₂·cons {a = q} {b = m} h t) = ap₂ {A = Marking Tail} {B = List (Marking Tail)} {C = List (Marking Tail)} _∷_ (no-other-marking (q .bytes) (labelsOf T js) m h) (no-other-markings t)
 
-module _ (s : List ℕ) where
-  abbrev pub marked : Marked s
+module _ (T : Texts) where
+  abbrev pub marked : Marked T
   marked =
       record {
-        definitions = definitions s;
-        paragraphs = paragraphs s;
-        markings = markingsIn (labelsOf s (definitions s)) (paragraphs s);
-        note = note-some s;
-        each = markings-meet s (definitions s) (paragraphs s);
+        list = joined T;
+        paragraphs = paragraphs (T .note);
+        markings = markingsIn (labelsOf T (joined T)) (paragraphs (T .note));
+        joined = joined-some T;
+        each = markings-meet T (joined T) (paragraphs (T .note));
       }
 
-  -- the definitions of any marked note are those that are read
-  pub definitions-are-read : (n : Marked s) → definitions s ≡ n .definitions
-  definitions-are-read n = note-iff s (n .definitions) (n .paragraphs) .1 (n .note) .0
+  -- the joined list of any marked note is the one that is read
+  pub list-is-read : (n : Marked T) → joined T ≡ n .list
+  list-is-read n = joined-one T (n .joined) .0
 
-  -- exactly one marking of each paragraph meets the conditions, for every list of bytes, so for every note, refused or not
-  pub one-marking-each : OneMarkingEach s
+  -- exactly one marking of each paragraph meets the conditions, for every two lists of bytes, so for every note and sheet, refused or not
+  pub one-marking-each : OneMarkingEach T
   one-marking-each =
       record {
         the-markings = marked;
         no-others = λ n.
-            let (d, p) = note-iff s (n .definitions) (n .paragraphs) .1 (n .note) in
-            (sym d, sym p, no-other-markings s (n .definitions) (n .each) ∙ rw (d, p) refl);
-        each = λ q h. exactly-one-marking (q .bytes) (labelsOf s (definitions s));
+            let (d, p) = joined-one T (n .joined) in
+            (sym d, sym p, no-other-markings T (n .list) (n .each) ∙ rw (d, p) refl);
+        each = λ q h. exactly-one-marking (q .bytes) (labelsOf T (joined T));
       }

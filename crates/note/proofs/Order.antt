@@ -13,10 +13,12 @@ use Rattle.scan.specs.Member.{In}
 use Rattle.scan.proofs.Member.{in-either}
 use Rattle.marking.proofs.Lists.{at-inside, at-split}
 use Rattle.marking.proofs.Sorted.{in-none, head-first}
+use Rattle.texts.specs.Texts.{Texts}
 use Rattle.block.specs.Block.{Placed}
 use Rattle.row.specs.declared.Definition.{Definition}
-use Rattle.definition.specs.Reading.{definitions}
+use Rattle.row.specs.Row.{definitionsOf}
 use Rattle.definition.proofs.NotePlaces.{Ordered, done, next, paragraphs-in-order}
+use Rattle.joined.specs.Reading.{joined}
 use Rattle.inline.specs.ReadingRows as paragraph
 use Rattle.inline.specs.Rows.{rowEnd, EndsIncrease}
 use Rattle.inline.proofs.SpanRows.{ends-increase}
@@ -56,17 +58,17 @@ module _ (s : List ℕ) (ls : List (List ℕ)) (ds : List Definition) where
       join (paragraph.spanRows s (q .at) (q .bytes) ls ds) (rowsIn s ls ds ps) (ends-increase s (q .at) (q .bytes) ls ds) (increase o)
       (λ x y a b. omega (arith, row-ends s (q .at) (q .bytes) ls ds x a .1, ends-after o y b))
 
-module _ (s : List ℕ) where
+module _ (T : Texts) where
   -- the ends of the note's span rows increase
-  pub rows-in-order : EndsIncrease (spanRows s)
+  pub rows-in-order : EndsIncrease (spanRows T)
   unfolding spanRows
-  rows-in-order = increase s (labels s) (definitions s) (paragraphs-in-order s)
+  rows-in-order = increase (T .note) (labels T) (definitionsOf (joined T)) (paragraphs-in-order (T .note))
 
   -- of two rows the later ends later, so that no row stands there twice
-  pub later-ends-later : (i j : ℕ) (x y : List ℕ) → i < j → getElem? (spanRows s) i ≡ some x → getElem? (spanRows s) j ≡ some y → rowEnd x < rowEnd y
-  later-ends-later i j x y h e d = rise (spanRows s) rows-in-order i j x y h e d
+  pub later-ends-later : (i j : ℕ) (x y : List ℕ) → i < j → getElem? (spanRows T) i ≡ some x → getElem? (spanRows T) j ≡ some y → rowEnd x < rowEnd y
+  later-ends-later i j x y h e d = rise (spanRows T) rows-in-order i j x y h e d
 
-  pub each-row-once : (i j : ℕ) (x : List ℕ) → getElem? (spanRows s) i ≡ some x → getElem? (spanRows s) j ≡ some x → i ≡ j
+  pub each-row-once : (i j : ℕ) (x : List ℕ) → getElem? (spanRows T) i ≡ some x → getElem? (spanRows T) j ≡ some x → i ≡ j
   each-row-once i j x e d =
       by (ltb i j) (λ t. absurd (omega (arith, later-ends-later i j x x (ltb-true i j t) e d)))
       (λ f. by (ltb j i) (λ t. absurd (omega (arith, later-ends-later j i x x (ltb-true j i t) d e))) (λ g. omega (arith, ltb-false i j f, ltb-false j i g)))

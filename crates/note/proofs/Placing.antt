@@ -9,10 +9,11 @@ use lib.Seq.{drop-drop, drop-append-le, take-append-le}
 use Rattle.marking.specs.Marking.{Marking}
 use Rattle.scan.specs.Member.{In}
 use Rattle.marking.specs.Spans.{Span, SpanOf}
+use Rattle.texts.specs.Texts.{Texts}
 use Rattle.block.specs.Block.{Placed}
-use Rattle.row.specs.Row.{range}
+use Rattle.row.specs.Row.{range, definitionsOf}
 use Rattle.row.specs.First.{bytesOf, labelsOf}
-use Rattle.definition.specs.Reading.{definitions}
+use Rattle.joined.specs.Reading.{joined}
 use Rattle.definition.proofs.NotePlaces.{Inside, Ordered, done, next, paragraphs-in-order}
 use Rattle.inline.specs.Tails.{Tail}
 use Rattle.inline.specs.Claims.{RowWithin}
@@ -24,14 +25,14 @@ use Rattle.note.proofs.Members.{pair-at}
 use Rattle.note.proofs.Markings.{marked}
 use Rattle.note.proofs.Rows.{in-here, in-rows-iff}
 
-pub record FromSpan (s : List ℕ) (row : List ℕ) : Type 0 where
+pub record FromSpan (T : Texts) (row : List ℕ) : Type 0 where
   pub paragraph : Placed
-  pub inside : Inside s paragraph
+  pub inside : Inside (T .note) paragraph
   pub marking : Marking Tail
-  pub meets : MarkingOf s (definitions s) paragraph marking
+  pub meets : MarkingOf T (joined T) paragraph marking
   pub span : Span Tail
   pub of-marking : SpanOf marking span
-  pub row-is : spanRow s (paragraph .at) (paragraph .bytes) (definitions s) span ≡ row
+  pub row-is : spanRow (T .note) (paragraph .at) (paragraph .bytes) (definitionsOf (joined T)) span ≡ row
   pub within : RowWithin (paragraph .at) (length (paragraph .bytes)) row
 
 pub each-inside : {s : List ℕ} {from : ℕ} {ps : List Placed} → Ordered s from ps → (k : ℕ) (q : Placed) → getElem? ps k ≡ some q → Inside s q
@@ -39,22 +40,23 @@ each-inside done k q e = absurd (Option·none-ne-some q e)
 each-inside {s} (next {p = p} h w o) zero q e = subst (Inside s) (Option·some-injective p q e) w
 each-inside (next h w o) (suc k) q e = each-inside o k q e
 
-pub from-span : (s : List ℕ) (row : List ℕ) → In row (spanRows s) → FromSpan s row
-from-span s row i =
-    let r = in-rows-iff s (marked s) row .0 i in
+pub from-span : (T : Texts) (row : List ℕ) → In row (spanRows T) → FromSpan T row
+from-span T row i =
+    let r = in-rows-iff T (marked T) row .0 i in
     let q = r .paragraph in
-    let c : MarkingOf s (definitions s) q (r .marking) = pair-at (marked s .each) (r .index) q (r .marking) (r .paragraph-at) (r .marking-at) in
-    let is : spanRow s (q .at) (q .bytes) (definitions s) (r .span) ≡ row = row-read s (q .at) (q .bytes) (definitions s) (r .row-is) in
-    let (k, e) = in-here s (definitions s) row q (r .marking) c (r .span) (r .of-marking) is in
+    let ds = definitionsOf (joined T) in
+    let c : MarkingOf T (joined T) q (r .marking) = pair-at (marked T .each) (r .index) q (r .marking) (r .paragraph-at) (r .marking-at) in
+    let is : spanRow (T .note) (q .at) (q .bytes) ds (r .span) ≡ row = row-read (T .note) (q .at) (q .bytes) ds (r .row-is) in
+    let (k, e) = in-here T (joined T) row q (r .marking) c (r .span) (r .of-marking) is in
     record {
       paragraph = q;
-      inside = each-inside (paragraphs-in-order s) (r .index) q (r .paragraph-at);
+      inside = each-inside (paragraphs-in-order (T .note)) (r .index) q (r .paragraph-at);
       marking = r .marking;
       meets = c;
       span = r .span;
       of-marking = r .of-marking;
       row-is = is;
-      within = row-within s (q .at) (q .bytes) (labelsOf s (definitions s)) (definitions s) k row e;
+      within = row-within (T .note) (q .at) (q .bytes) (labelsOf T (joined T)) ds k row e;
     }
 
 -- ---- lists

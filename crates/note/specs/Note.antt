@@ -1,4 +1,5 @@
--- The markings of a note, its span rows, and its first bracket too many: document 01, over all paragraphs of a note. s is any list of bytes.
+-- The markings of a note, its span rows, and its first bracket too many: document 01, over all paragraphs of a note, with the definitions of the note and of the
+-- sheet beside it. The texts are any lists of bytes.
 use Prim.Native.Nat.{ℕ, _+_, _<_}
 use mathlib.Core.Path.{_≡_}
 use mathlib.Core.Option.{some}
@@ -8,10 +9,12 @@ use Rattle.marking.specs.Marking.{Marking, Meets}
 use Rattle.scan.specs.Member.{In}
 use Rattle.marking.specs.Spans.{Span, SpanOf}
 use Rattle.marking.specs.Open.{NeverOver, FirstOver}
+use Rattle.texts.specs.Texts.{Texts}
 use Rattle.block.specs.Block.{Placed}
 use Rattle.row.specs.declared.Definition.{Definition}
+use Rattle.row.specs.Row.{Listed, definitionsOf}
 use Rattle.row.specs.First.{labelsOf}
-use Rattle.definition.specs.Note.{NoteIs}
+use Rattle.joined.specs.Joined.{JoinedIs}
 use Rattle.inline.specs.Tails.{Tail}
 use Rattle.inline.specs.Paragraph.{rules}
 use Rattle.inline.specs.Rows.{RowIs, RowsAre, EndsIncrease}
@@ -21,21 +24,21 @@ abbrev pub depthLimit : ℕ
 depthLimit = 1024
 
 -- ---- markings
--- "A marking meets the conditions exactly when everything in this section holds of it": m, of the paragraph q of a note whose definitions are ds
-abbrev pub MarkingOf : List ℕ → List Definition → Placed → Marking Tail → Type 0
-MarkingOf s ds q m = Meets (rules (q .bytes) (labelsOf s ds)) m
+-- "A marking meets the conditions exactly when everything in this section holds of it": m, of the paragraph q of the note; js is the joined list
+abbrev pub MarkingOf : Texts → List Listed → Placed → Marking Tail → Type 0
+MarkingOf T js q m = Meets (rules (q .bytes) (labelsOf T js)) m
 
 -- one marking for each paragraph, in order, and each meets the conditions
-abbrev pub MarkingsAre : List ℕ → List Definition → List Placed → List (Marking Tail) → Type 0
-MarkingsAre s ds ps ms = Forall₂ (MarkingOf s ds) ps ms
+abbrev pub MarkingsAre : Texts → List Listed → List Placed → List (Marking Tail) → Type 0
+MarkingsAre T js ps ms = Forall₂ (MarkingOf T js) ps ms
 
--- the note's definitions, its paragraphs and their markings
-pub record Marked (s : List ℕ) : Type 0 where
-  pub definitions : List Definition
+-- the joined list, the note's paragraphs and their markings
+pub record Marked (T : Texts) : Type 0 where
+  pub list : List Listed
   pub paragraphs : List Placed
   pub markings : List (Marking Tail)
-  pub note : NoteIs s definitions paragraphs
-  pub each : MarkingsAre s definitions paragraphs markings
+  pub joined : JoinedIs T list paragraphs
+  pub each : MarkingsAre T list paragraphs markings
 
 -- ---- span rows
 -- row is that of a link or a code span in the marking of one of these paragraphs of the note s
@@ -51,21 +54,21 @@ pub record RowOf (s : List ℕ) (ds : List Definition) (ps : List Placed) (ms : 
 
 -- "Demand 3 compares them whole, number for number, with the rows that this section makes of the links and code spans in the markings": the rows
 -- of all of these and nothing else. "Rows stand in increasing order of end", so that each stands there once.
-pub record EachRowOnce (s : List ℕ) (rows : List (List ℕ)) : Type 0 where
-  pub marked : Marked s
-  pub each : (row : List ℕ) → RowOf s (marked .definitions) (marked .paragraphs) (marked .markings) row → In row rows
-  pub no-others : (row : List ℕ) → In row rows → RowOf s (marked .definitions) (marked .paragraphs) (marked .markings) row
+pub record EachRowOnce (T : Texts) (rows : List (List ℕ)) : Type 0 where
+  pub marked : Marked T
+  pub each : (row : List ℕ) → RowOf (T .note) (definitionsOf (marked .list)) (marked .paragraphs) (marked .markings) row → In row rows
+  pub no-others : (row : List ℕ) → In row rows → RowOf (T .note) (definitionsOf (marked .list)) (marked .paragraphs) (marked .markings) row
   pub in-order : EndsIncrease rows
 
 -- What follows: the same rows paragraph after paragraph, those of each by itself. "Places count from the note's start."
-pub data RowsIn (s : List ℕ) (ds : List Definition) : List Placed → List (Marking Tail) → List (List ℕ) → Type 0 where
-  none : RowsIn s ds [] [] []
+pub data RowsIn (T : Texts) (js : List Listed) : List Placed → List (Marking Tail) → List (List ℕ) → Type 0 where
+  none : RowsIn T js [] [] []
   more : {q : Placed} {ps : List Placed} {m : Marking Tail} {ms : List (Marking Tail)} {rows others : List (List ℕ)}
-      → RowsAre s (q .at) (q .bytes) (labelsOf s ds) ds m rows → RowsIn s ds ps ms others → RowsIn s ds (q ∷ ps) (m ∷ ms) (rows ++ others)
+      → RowsAre (T .note) (q .at) (q .bytes) (labelsOf T js) (definitionsOf js) m rows → RowsIn T js ps ms others → RowsIn T js (q ∷ ps) (m ∷ ms) (rows ++ others)
 
-pub record SpanRowsAre (s : List ℕ) (rows : List (List ℕ)) : Type 0 where
-  pub marked : Marked s
-  pub rows-are : RowsIn s (marked .definitions) (marked .paragraphs) (marked .markings) rows
+pub record SpanRowsAre (T : Texts) (rows : List (List ℕ)) : Type 0 where
+  pub marked : Marked T
+  pub rows-are : RowsIn T (marked .list) (marked .paragraphs) (marked .markings) rows
 
 -- ---- brackets open at once
 -- more than `depthLimit` brackets are open at once in one of these paragraphs, and the bracket at this place is the first too many in the first of them
@@ -81,11 +84,11 @@ pub record FirstDeepIn (ps : List Placed) (ms : List (Marking Tail)) (place : �
   pub none-before : (k : ℕ) (m : Marking Tail) → k < index → getElem? ms k ≡ some m → NeverOver depthLimit m
 
 -- some paragraph has over `depthLimit` brackets open at once, and the "place of the first bracket too many"
-pub record FirstDeep (s : List ℕ) (place : ℕ) : Type 0 where
-  pub marked : Marked s
+pub record FirstDeep (T : Texts) (place : ℕ) : Type 0 where
+  pub marked : Marked T
   pub first : FirstDeepIn (marked .paragraphs) (marked .markings) place
 
 -- no paragraph has
-pub record NeverDeep (s : List ℕ) : Type 0 where
-  pub marked : Marked s
+pub record NeverDeep (T : Texts) : Type 0 where
+  pub marked : Marked T
   pub never : (k : ℕ) (m : Marking Tail) → getElem? (marked .markings) k ≡ some m → NeverOver depthLimit m

@@ -1,5 +1,5 @@
 -- "Samples on the bench": the notes P1 to P13 of document 01 with their definition rows and their span rows; beside them its whole example, a note
--- over many lines, and notes with 1,024 and 1,025 brackets open.
+-- over many lines, notes with a sheet, and notes with 1,024 and 1,025 brackets open.
 use Prim.Native.Nat.{ℕ}
 use Prim.Native.String.{String}
 use mathlib.Core.Path.{_≡_, refl}
@@ -17,26 +17,35 @@ use Rattle.matching.specs.Reading.{spaced, formOf, compared, equals, matches}
 use Rattle.marking.specs.ReadingSpans.{spans, finish, scan, scanStep, scanFound, scanStart, over, overs, overWithin}
 use Rattle.block.specs.Reading.{blankLine, lineLength, blockRest, blockLength, partLength, blockHere, blocks}
 use Rattle.block.specs.Block.{Placed}
-use Rattle.row.specs.declared.Definition.{Definition}
-use Rattle.row.specs.Row.{numbers}
+use Rattle.texts.specs.Texts.{Texts, texts}
+use Rattle.row.specs.Row.{Listed, numbers}
 use Rattle.row.specs.Reading.{matchFrom}
 use Rattle.definition.specs.Reading as definition
 use Rattle.definition.specs.Reading.{definitions, paragraphs}
+use Rattle.joined.specs.Reading.{joined}
 use Rattle.inline.specs.ReadingPieces.{countAfter, runStep, runDone, closingRun, pieceFrom}
 use Rattle.inline.specs.ReadingTails.{closedAt, afterDestination, inlineOf, labelAfter, textTail, tailOf}
 use Rattle.note.specs.Reading.{labels, rowsIn, spanRows, deepIn, firstDeep}
 
 pub record Sample : Type 0 where
   pub note : String
-  -- its definition rows, seven numbers each, and its span rows, eleven numbers each
+  pub sheet : String
+  -- the definition rows, eight numbers each, and the span rows, eleven numbers each
   pub definition-rows : List (List ℕ)
   pub span-rows : List (List ℕ)
 
-abbrev sample : String → List (List ℕ) → List (List ℕ) → Sample
-sample note ds rs = record { note = note; definition-rows = ds; span-rows = rs }
+abbrev beside : String → String → List (List ℕ) → List (List ℕ) → Sample
+beside sheet note ds rs = record { note = note; sheet = sheet; definition-rows = ds; span-rows = rs }
 
-abbrev seven : ℕ → ℕ → ℕ → ℕ → ℕ → ℕ → ℕ → List ℕ
-seven a b c d e f l = a ∷ b ∷ c ∷ d ∷ e ∷ f ∷ l ∷ []
+-- with an empty sheet
+abbrev sample : String → List (List ℕ) → List (List ℕ) → Sample
+sample = beside ""
+
+abbrev of-note : ℕ → ℕ → ℕ → ℕ → ℕ → ℕ → ℕ → List ℕ
+of-note a b c d e f l = 0 ∷ a ∷ b ∷ c ∷ d ∷ e ∷ f ∷ l ∷ []
+
+abbrev of-sheet : ℕ → ℕ → ℕ → ℕ → ℕ → ℕ → ℕ → List ℕ
+of-sheet a b c d e f l = 1 ∷ a ∷ b ∷ c ∷ d ∷ e ∷ f ∷ l ∷ []
 
 abbrev eleven : ℕ → ℕ → ℕ → ℕ → ℕ → ℕ → ℕ → ℕ → ℕ → ℕ → ℕ → List ℕ
 eleven k a b c d n e f g h l = k ∷ a ∷ b ∷ c ∷ d ∷ n ∷ e ∷ f ∷ g ∷ h ∷ l ∷ []
@@ -48,32 +57,45 @@ samples =
     ∷ sample "[a](<b)c>)" [] (eleven 2 0 10 1 2 0 5 8 0 0 1 ∷ [])
     ∷ sample "[link](foo\\)\\:)" [] (eleven 2 0 15 1 5 0 7 14 0 0 1 ∷ [])
     ∷ sample "[link](/my uri)" [] []
-    ∷ sample "[foo][ref\\[]\n\n[ref\\[]: /uri" (seven 15 20 23 27 0 0 3 ∷ []) (eleven 3 0 12 1 4 1 23 27 0 0 1 ∷ [])
+    ∷ sample "[foo][ref\\[]\n\n[ref\\[]: /uri" (of-note 15 20 23 27 0 0 3 ∷ []) (eleven 3 0 12 1 4 1 23 27 0 0 1 ∷ [])
     -- P6 to P11: source 003
-    ∷ sample "[foo [bar](/uri)][ref]\n\n[ref]: /uri" (seven 25 28 31 35 0 0 3 ∷ []) (eleven 2 5 16 6 9 0 11 15 0 0 1 ∷ eleven 5 17 22 18 21 1 31 35 0 0 1 ∷ [])
-    ∷ sample "[foo][bar][baz]\n\n[baz]: /url" (seven 18 21 24 28 0 0 3 ∷ []) (eleven 3 5 15 6 9 1 24 28 0 0 1 ∷ [])
-    ∷ sample "[foo][bar][baz]\n\n[baz]: /url1\n[bar]: /url2" (seven 18 21 24 29 0 0 3 ∷ seven 31 34 37 42 0 0 4 ∷ []) (eleven 3 0 10 1 4 2 37 42 0 0 1 ∷ eleven 5 10 15 11 14 1 24 29 0 0 1 ∷ [])
-    ∷ sample "[foo][bar][baz]\n\n[baz]: /url1\n[foo]: /url2" (seven 18 21 24 29 0 0 3 ∷ seven 31 34 37 42 0 0 4 ∷ []) (eleven 3 5 15 6 9 1 24 29 0 0 1 ∷ [])
-    ∷ sample "[foo`][ref]`\n\n[ref]: /uri" (seven 15 18 21 25 0 0 3 ∷ []) (eleven 1 4 12 5 11 0 0 0 0 0 1 ∷ [])
-    ∷ sample "[foo](not a link)\n\n[foo]: /url1" (seven 20 23 26 31 0 0 3 ∷ []) (eleven 5 0 5 1 4 1 26 31 0 0 1 ∷ [])
+    ∷ sample "[foo [bar](/uri)][ref]\n\n[ref]: /uri" (of-note 25 28 31 35 0 0 3 ∷ []) (eleven 2 5 16 6 9 0 11 15 0 0 1 ∷ eleven 5 17 22 18 21 1 31 35 0 0 1 ∷ [])
+    ∷ sample "[foo][bar][baz]\n\n[baz]: /url" (of-note 18 21 24 28 0 0 3 ∷ []) (eleven 3 5 15 6 9 1 24 28 0 0 1 ∷ [])
+    ∷ sample "[foo][bar][baz]\n\n[baz]: /url1\n[bar]: /url2" (of-note 18 21 24 29 0 0 3 ∷ of-note 31 34 37 42 0 0 4 ∷ []) (eleven 3 0 10 1 4 2 37 42 0 0 1 ∷ eleven 5 10 15 11 14 1 24 29 0 0 1 ∷ [])
+    ∷ sample "[foo][bar][baz]\n\n[baz]: /url1\n[foo]: /url2" (of-note 18 21 24 29 0 0 3 ∷ of-note 31 34 37 42 0 0 4 ∷ []) (eleven 3 5 15 6 9 1 24 29 0 0 1 ∷ [])
+    ∷ sample "[foo`][ref]`\n\n[ref]: /uri" (of-note 15 18 21 25 0 0 3 ∷ []) (eleven 1 4 12 5 11 0 0 0 0 0 1 ∷ [])
+    ∷ sample "[foo](not a link)\n\n[foo]: /url1" (of-note 20 23 26 31 0 0 3 ∷ []) (eleven 5 0 5 1 4 1 26 31 0 0 1 ∷ [])
     -- P12 and P13: source 002, examples 173 and 179
-    ∷ sample "[foo]\n\n[foo]: first\n[foo]: second" (seven 8 11 14 19 0 0 3 ∷ seven 21 24 27 33 0 0 4 ∷ []) (eleven 5 0 5 1 4 1 14 19 0 0 1 ∷ [])
-    ∷ sample "[foo]: /url\n\"title\" ok" (seven 1 4 7 11 0 0 1 ∷ []) []
+    ∷ sample "[foo]\n\n[foo]: first\n[foo]: second" (of-note 8 11 14 19 0 0 3 ∷ of-note 21 24 27 33 0 0 4 ∷ []) (eleven 5 0 5 1 4 1 14 19 0 0 1 ∷ [])
+    ∷ sample "[foo]: /url\n\"title\" ok" (of-note 1 4 7 11 0 0 1 ∷ []) []
     ∷ []
 
 -- "Whole example, 34 bytes", and it "gains 1 on its definition row and 3 on its span row"
 abbrev pub whole-example : Sample
-whole-example = sample "[max]: /q2/max \"June\"\n\nUse [max].\n" (seven 1 4 7 14 16 20 1 ∷ []) (eleven 5 27 32 28 31 1 7 14 16 20 3 ∷ [])
+whole-example = sample "[max]: /q2/max \"June\"\n\nUse [max].\n" (of-note 1 4 7 14 16 20 1 ∷ []) (eleven 5 27 32 28 31 1 7 14 16 20 3 ∷ [])
 
 -- lines: of a definition whose parts stand on two lines, of a link that starts before the code span in it, and past empty lines
 abbrev pub over-lines : Sample
 over-lines =
-    sample "\n[a]:\nb\n\n[x\n`y`][a]\n\n\n`z`" (seven 2 3 6 7 0 0 2 ∷ [])
+    sample "\n[a]:\nb\n\n[x\n`y`][a]\n\n\n`z`" (of-note 2 3 6 7 0 0 2 ∷ [])
     (eleven 1 12 15 13 14 0 0 0 0 0 6 ∷ eleven 3 9 19 10 15 1 6 7 0 0 5 ∷ eleven 1 22 25 23 24 0 0 0 0 0 9 ∷ [])
 
--- a sample's note with the rows that are read from its bytes
+-- with a sheet: the note's definition is the first of two equal ones; the sheet's paragraphs, brackets too, are ignored; the line of a sheet's definition is the
+-- sheet's; an inline link keeps its own destination
+abbrev pub with-sheet : List Sample
+with-sheet =
+    beside "[a]: /s\n[b]: /t 'x'" "[a] [b]\n\n[a]: /n" (of-note 10 11 14 16 0 0 3 ∷ of-sheet 1 2 5 7 0 0 1 ∷ of-sheet 9 10 13 15 17 18 2 ∷ [])
+    (eleven 5 0 3 1 2 1 14 16 0 0 1 ∷ eleven 5 4 7 5 6 3 13 15 17 18 1 ∷ [])
+    ∷ beside "[[[[`y` [x]\n\n[x]: /u" "[x]" (of-sheet 14 15 18 20 0 0 3 ∷ []) (eleven 5 0 3 1 2 1 18 20 0 0 1 ∷ [])
+    ∷ beside "[x]: /u" "[x](/i) [y][x]" (of-sheet 1 2 5 7 0 0 1 ∷ []) (eleven 2 0 7 1 2 0 4 6 0 0 1 ∷ eleven 3 8 14 9 10 1 5 7 0 0 1 ∷ [])
+    ∷ []
+
+abbrev pub textsOf : Sample → Texts
+textsOf x = texts (ascii (x .note)) (ascii (x .sheet))
+
+-- a sample's texts with the rows that are read from their bytes
 abbrev pub readOne : Sample → Sample
-readOne x = sample (x .note) (map (numbers (ascii (x .note))) (definitions (ascii (x .note)))) (spanRows (ascii (x .note)))
+readOne x = beside (x .sheet) (x .note) (map (numbers (textsOf x)) (joined (textsOf x))) (spanRows (textsOf x))
 
 abbrev pub brackets : ℕ → List ℕ
 brackets n = replicate n 91
@@ -86,29 +108,37 @@ openings at n = record { at = at; bytes = brackets n }
 abbrev pub two : ℕ → ℕ → List ℕ
 two n m = brackets n ++ 10 ∷ 10 ∷ brackets m
 
-abbrev pub partsOf : List ℕ → List Definition × List Placed
-partsOf s = (definitions s, paragraphs s)
+-- the note s with an empty sheet
+abbrev pub alone : List ℕ → Texts
+alone s = texts s []
+
+abbrev pub partsOf : List ℕ → List Listed × List Placed
+partsOf s = (joined (alone s), paragraphs s)
 
 pub record Holds : Type 0 where
   pub bench : map readOne samples ≡ samples
   pub example : readOne whole-example ≡ whole-example
   pub lines : readOne over-lines ≡ over-lines
+  pub sheets : map readOne with-sheet ≡ with-sheet
   -- "A formulary import has lists in square brackets 70 deep."
-  pub seventy : firstDeep (brackets 70 ++ replicate 70 93) ≡ none
+  pub seventy : firstDeep (alone (brackets 70 ++ replicate 70 93)) ≡ none
   pub parts-1024 : partsOf (brackets 1024) ≡ ([], openings 0 1024 ∷ [])
   pub parts-1025 : partsOf (brackets 1025) ≡ ([], openings 0 1025 ∷ [])
   pub parts-two : partsOf (two 1024 1024) ≡ ([], openings 0 1024 ∷ openings 1026 1024 ∷ [])
   pub parts-later : partsOf (two 5 1025) ≡ ([], openings 0 5 ∷ openings 7 1025 ∷ [])
+  pub deep-sheet : joined (texts (brackets 1024) (brackets 1025)) ≡ []
 
 -- As many brackets open as may be, and one more. A scan of so many pieces costs too much to be computed: what is read of opening brackets alone
 -- is known for every number of them.
 pub record Edges : Type 0 where
-  pub shallow : firstDeep (brackets 1024) ≡ none
-  pub deep : firstDeep (brackets 1025) ≡ some 1024
+  pub shallow : firstDeep (alone (brackets 1024)) ≡ none
+  pub deep : firstDeep (alone (brackets 1025)) ≡ some 1024
   -- "Each paragraph starts afresh", and places count from the note's start
-  pub afresh : firstDeep (two 1024 1024) ≡ none
-  pub deep-later : firstDeep (two 5 1025) ≡ some 1031
-  pub no-span : spanRows (brackets 1024) ≡ []
+  pub afresh : firstDeep (alone (two 1024 1024)) ≡ none
+  pub deep-later : firstDeep (alone (two 5 1025)) ≡ some 1031
+  pub no-span : spanRows (alone (brackets 1024)) ≡ []
+  -- "refusal 4 reads the note only"
+  pub deep-sheet : firstDeep (texts (brackets 1024) (brackets 1025)) ≡ none
 
 pub holds : Holds
 unfolding feeds lineOf scanBytes run past leap closingStep closing onesFrom leadingOnes sequenceLength characters inky fitsAfter fits labelEnd unclosed isLabel
@@ -116,5 +146,5 @@ unfolding feeds lineOf scanBytes run past leap closingStep closing onesFrom lead
     spans finish scan scanStep scanFound scanStart over overs overWithin blankLine lineLength blockRest blockLength partLength blockHere blocks matchFrom
     definition.lineAfter definition.titleAfter definition.endingAfter definition.afterLabel definition.afterIndent definition.definitionAt definition.takingFrom definition.definitionsFrom
     definition.paragraphEnd definition.paragraphFrom definition.definitionsOf definition.paragraphOf definition.definitionsIn definition.paragraphsIn definitions paragraphs
-    countAfter runStep runDone closingRun pieceFrom closedAt afterDestination inlineOf labelAfter textTail tailOf labels rowsIn spanRows deepIn firstDeep
-holds = record { bench = refl; example = refl; lines = refl; seventy = refl; parts-1024 = refl; parts-1025 = refl; parts-two = refl; parts-later = refl }
+    countAfter runStep runDone closingRun pieceFrom closedAt afterDestination inlineOf labelAfter textTail tailOf joined labels rowsIn spanRows deepIn firstDeep
+holds = record { bench = refl; example = refl; lines = refl; sheets = refl; seventy = refl; parts-1024 = refl; parts-1025 = refl; parts-two = refl; parts-later = refl; deep-sheet = refl }

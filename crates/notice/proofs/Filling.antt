@@ -1,15 +1,14 @@
 -- Span rows stored one after the other fill the table, be they spans or lists of numbers.
 use Prim.Native.Nat.{ℕ, zero, suc}
-use native.Mathlib.Omega.{arith}
-use mathlib.Core.Path.{_≡_, refl, sym, ap, _∙_}
-use mathlib.Core.List.{List, [], _∷_, _++_, map, map-map, append-nil, append-assoc}
-use lib.ListN.{length, take, length-append}
+use mathlib.Core.Path.{_≡_, refl, ap}
+use mathlib.Core.List.{List, [], _∷_, _++_, map, map-map}
+use lib.ListN.{length, take}
 use Rattle.marking.specs.Spans as marked
 use Rattle.rows.specs.Rows
+use Rattle.rows.proofs.Filled as rows
 use Rattle.row.specs.declared.Definition.{Definition}
 use Rattle.span.specs.declared.Span.{Span}
-use Rattle.span.specs.Row.{numbers, wholeRows, filled}
-use Rattle.span.proofs.Filled.{store-next}
+use Rattle.span.specs.Row.{width, numbers, wholeRows, filled}
 use Rattle.inline.specs.Tails.{Tail}
 use Rattle.inline.specs.ReadingRows.{rowFor, spanRow}
 use Rattle.step.specs.Reading.{storedAll}
@@ -18,11 +17,7 @@ use Rattle.notice.specs.Claims.{spanNumbers}
 
 module _ (s : List ℕ) where
   pub store-all : (t₀ : List ℕ) (passed xs : List Span) {t : List ℕ} {k : ℕ} → t ≡ filled s passed t₀ → k ≡ length passed → storedAll s t k xs ≡ filled s (passed ++ xs) t₀
-  unfolding storedAll
-  store-all t₀ passed [] et ek = et ∙ sym (ap (λ (l : List Span). filled s l t₀) (append-nil passed))
-  store-all t₀ passed (x ∷ xs) et ek =
-      store-all t₀ (passed ++ x ∷ []) xs (store-next s passed x t₀ et ek) (omega (arith, ek, length-append passed (x ∷ [])))
-      ∙ ap (λ (l : List Span). filled s l t₀) (append-assoc passed (x ∷ []) xs)
+  store-all = rows.store-all width (numbers s) (λ x. refl)
 
   taken-numbers : (n : ℕ) (xs : List Span) → spanNumbers (take n (map (numbers s) xs)) ≡ Rows.rows (numbers s) (take n xs)
   unfolding Rows.rows

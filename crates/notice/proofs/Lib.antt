@@ -3,7 +3,6 @@ pub mod Answers
 pub mod Demand1
 pub mod Tables
 pub mod Promise
-pub mod Few
 pub mod Filling
 pub mod Turns
 pub mod Returns

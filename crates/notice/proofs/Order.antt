@@ -1,13 +1,13 @@
--- The answer, refusal after refusal: what is said where the note is good, by the counts, the first bracket too many and the rows lent.
+-- The answer, refusal after refusal: what is said where the texts are good, by the counts, the first bracket too many and the rows lent.
 use Prim.Native.Nat.{ℕ, _≤_, _<_}
 use mathlib.Core.Path.{_≡_}
 use mathlib.Core.Option.{Option, none, some}
-use mathlib.Core.List.{List}
 use borrow.Author.Tests.{lt-ltb, le-ltb}
 use lib.ListN.{length}
-use Rattle.text.specs.declared.Checked.{Checked}
-use Rattle.text.specs.Reading.{checkOf}
-use Rattle.definition.specs.Reading.{definitions}
+use Rattle.texts.specs.declared.Checked.{Checked}
+use Rattle.texts.specs.Texts.{Texts}
+use Rattle.texts.specs.Reading.{checkOf}
+use Rattle.joined.specs.Reading.{joined}
 use Rattle.note.specs.Reading.{spanRows, firstDeep}
 use Rattle.notice.specs.declared.Reading.the-variants.{Read, FewDefinitions, Deep, FewSpans}
 use Rattle.notice.specs.Reading.{badOr, withSpans, withDefinitions, readingOf}
@@ -29,7 +29,7 @@ module _ (a : ℕ) (o : Option ℕ) (b lent lent′ : ℕ) where
   all-read h e k = rw (le-ltb lent a h, e, le-ltb lent′ b k)
 
 -- the answer by the check's
-pub by-check : (s : List ℕ) (lent lent′ : ℕ) (c : Checked) → checkOf s ≡ c
-    → readingOf s lent lent′ ≡ badOr c (withDefinitions (length (definitions s)) (firstDeep s) (length (spanRows s)) lent lent′)
+pub by-check : (T : Texts) (lent lent′ : ℕ) (c : Checked) → checkOf T ≡ c
+    → readingOf T lent lent′ ≡ badOr c (withDefinitions (length (joined T)) (firstDeep T) (length (spanRows T)) lent lent′)
 unfolding readingOf
-by-check s lent lent′ c e = rw e
+by-check T lent lent′ c e = rw e

@@ -10,14 +10,16 @@ use lib.ListN.{length}
 use lib.Dec.{ltb}
 use Rattle.scan.specs.Byte.{within}
 use Rattle.scan.proofs.Test.{by}
-use Rattle.text.specs.declared.Checked.{Checked}
-use Rattle.text.specs.declared.Checked.the-variants as text
-use Rattle.text.specs.Reading.{checkOf}
-use Rattle.text.proofs.Refusals.{check-good}
+use Rattle.texts.specs.declared.Checked.{Checked}
+use Rattle.texts.specs.declared.Checked.the-variants as texts
+use Rattle.texts.specs.Texts.{Texts}
+use Rattle.texts.specs.Answers.{GoodTexts}
+use Rattle.texts.specs.Reading.{checkOf}
+use Rattle.texts.proofs.Refusals.{good-texts}
 use Rattle.rows.proofs.Filled as rows
 use Rattle.row.specs.Row as definitionTable
-use Rattle.row.proofs.Filled.{filled-empty, filled-still, definitions-back}
-use Rattle.definition.specs.Reading.{definitions}
+use Rattle.row.proofs.Filled.{filled-empty, filled-still, entries-back}
+use Rattle.joined.specs.Reading.{joined}
 use Rattle.table.proofs.Lookup.{table-fit}
 use Rattle.span.specs.Row as spanTable
 use Rattle.note.specs.Reading.{spanRows, firstDeep}
@@ -27,7 +29,7 @@ use Rattle.paragraph.specs.declared.Tally.the-variants as tallies
 use Rattle.paragraph.specs.Tally as tally
 use Rattle.notice.specs.declared.Reading.{Reading}
 use Rattle.notice.specs.declared.Reading.the-variants.{Read, Long, Bad, FewDefinitions, Deep, FewSpans}
-use Rattle.notice.specs.Answers.{numberOf, valueOf, definitionCount, spanCount}
+use Rattle.notice.specs.Answers.{numberOf, valueOf, namedOf, definitionCount, spanCount}
 use Rattle.notice.specs.Reading.{withSpans, spansFilled, definitionTableOf, spanTableOf}
 use Rattle.notice.specs.Promise.{answerTo, Promise}
 use Rattle.notice.specs.Spans.{Defined, NoteMarked, SpansRead}
@@ -40,75 +42,83 @@ no-part (x ∷ part) t e = absurd (omega arith)
 
 -- ---- the spans
 -- they are counted, and nothing is stored
-module _ (s : List ℕ) (count : ℕ) {part : List ℕ} {r : Tally} (m : NoteMarked s [] r part) (u : List ℕ) where
-  pub too-many-open : {place : ℕ} → r ≡ tallies.Deep place → length part ≡ 0 → SpansRead s count u (Deep place) (part ++ u)
+module _ (T : Texts) (count : ℕ) {part : List ℕ} {r : Tally} (m : NoteMarked T [] r part) (u : List ℕ) where
+  pub too-many-open : {place : ℕ} → r ≡ tallies.Deep place → length part ≡ 0 → SpansRead T count u (Deep place) (part ++ u)
   too-many-open {place} er e =
-      let w : firstDeep s ≡ some place = was-deep (firstDeep s) (m .walk) (sym (m .answer) ∙ er) in
+      let w : firstDeep T ≡ some place = was-deep (firstDeep T) (m .walk) (sym (m .answer) ∙ er) in
       record { answer = rw w refl; spans = no-part part u e }
 
   module _ {w : Walk} (er : r ≡ tallies.Spans w) where
     abbrev n : ℕ
     n = w .row
 
-    never : firstDeep s ≡ none
-    never = was-spans (firstDeep s) (m .walk) (sym (m .answer) ∙ er) .0
+    never : firstDeep T ≡ none
+    never = was-spans (firstDeep T) (m .walk) (sym (m .answer) ∙ er) .0
 
-    count-is : length (spanRows s) ≡ n
-    count-is = sym (m .counted (ap tally.numberOf er)) ∙ ap (λ (x : Walk). x .row) (was-spans (firstDeep s) (m .walk) (sym (m .answer) ∙ er) .1)
+    count-is : length (spanRows T) ≡ n
+    count-is = sym (m .counted (ap tally.numberOf er)) ∙ ap (λ (x : Walk). x .row) (was-spans (firstDeep T) (m .walk) (sym (m .answer) ∙ er) .1)
 
     back : part ++ u ≡ u
-    back = no-part part u (ap length (m .table (ap tally.numberOf er) ∙ rows.filled-empty spanTable.width (λ (row : List ℕ). row) (spanRows s)))
+    back = no-part part u (ap length (m .table (ap tally.numberOf er) ∙ rows.filled-empty spanTable.width (λ (row : List ℕ). row) (spanRows T)))
 
     -- no span, no row
-    pub none-there : n ≡ 0 → SpansRead s count u (Read count 0) (part ++ u)
+    pub none-there : n ≡ 0 → SpansRead T count u (Read count 0) (part ++ u)
     none-there z =
-        let e : length (spanRows s) ≡ 0 = count-is ∙ z in
-        record { answer = rw (never, e, le-ltb (spanTable.wholeRows u) 0 (omega arith)) refl; spans = back ∙ rows.filled-still spanTable.width (λ (row : List ℕ). row) (spanRows s) u e }
+        let e : length (spanRows T) ≡ 0 = count-is ∙ z in
+        record { answer = rw (never, e, le-ltb (spanTable.wholeRows u) 0 (omega arith)) refl; spans = back ∙ rows.filled-still spanTable.width (λ (row : List ℕ). row) (spanRows T) u e }
 
     module _ {k : ℕ} (ek : k ≡ spanTable.wholeRows (part ++ u)) where
       rows-lent : k ≡ spanTable.wholeRows u
       rows-lent = ek ∙ ap (λ (l : List ℕ). spanTable.wholeRows l) back
 
-      pub too-few-rows : k < n → SpansRead s count u (FewSpans n) (part ++ u)
+      pub too-few-rows : k < n → SpansRead T count u (FewSpans n) (part ++ u)
       too-few-rows h =
           let z : spanTable.wholeRows u < n = omega (arith, rows-lent) in
           record { answer = rw (never, count-is, lt-ltb (spanTable.wholeRows u) n z) refl; spans = back }
 
-      pub all-stored : n ≤ k → {q : Tally} {u′ : List ℕ} → NoteMarked s (part ++ u) q u′ → SpansRead s count u (Read count n) u′
+      pub all-stored : n ≤ k → {q : Tally} {u′ : List ℕ} → NoteMarked T (part ++ u) q u′ → SpansRead T count u (Read count n) u′
       all-stored h z =
           let y : n ≤ spanTable.wholeRows u = omega (arith, rows-lent) in
-          record { answer = rw (never, count-is, le-ltb (spanTable.wholeRows u) n y) refl; spans = z .table (ap tally.numberOf (z .answer) ∙ rw never refl) ∙ ap (spansFilled (spanRows s)) back }
+          record { answer = rw (never, count-is, le-ltb (spanTable.wholeRows u) n y) refl; spans = z .table (ap tally.numberOf (z .answer) ∙ rw never refl) ∙ ap (spansFilled (spanRows T)) back }
 
 -- ---- the whole note
 -- the answer tells its number, its value and the counts
-pub kept : {s t u : List ℕ} {r : Reading} {t′ u′ : List ℕ} → r ≡ answerTo s t u → t′ ≡ definitionTableOf s (numberOf r) t → u′ ≡ spanTableOf s (numberOf r) u → Promise s t u r s t′ u′
+pub kept : {T : Texts} {t u : List ℕ} {r : Reading} {t′ u′ : List ℕ} → r ≡ answerTo T t u → t′ ≡ definitionTableOf T (numberOf r) t → u′ ≡ spanTableOf T (numberOf r) u → Promise T t u r T t′ u′
 kept e d n =
     record {
       answer = e;
       number = ap numberOf e;
       value = ap valueOf e;
+      named = ap namedOf e;
       definitions-counted = ap definitionCount e;
       spans-counted = ap spanCount e;
       definitions = d;
       spans = n;
-      note = refl;
+      texts = refl;
     }
 
-module _ (s t u : List ℕ) {c : Checked} (ec : c ≡ checkOf s) where
+module _ (T : Texts) (t u : List ℕ) {c : Checked} (ec : c ≡ checkOf T) where
   abbrev lent : ℕ
   lent = definitionTable.wholeRows t
 
   abbrev lent′ : ℕ
   lent′ = spanTable.wholeRows u
 
-  pub too-long : {n : ℕ} → c ≡ text.Long n → Promise s t u (Long n) s t u
-  too-long {n} e = kept (sym (by-check s lent lent′ (text.Long n) (sym ec ∙ e))) refl refl
+  pub too-long : {x n : ℕ} → c ≡ texts.Long x n → Promise T t u (Long x n) T t u
+  too-long {x} {n} e = kept (sym (by-check T lent lent′ (texts.Long x n) (sym ec ∙ e))) refl refl
 
-  pub not-good : {k : ℕ} → c ≡ text.Bad k → Promise s t u (Bad k) s t u
-  not-good {k} e = kept (sym (by-check s lent lent′ (text.Bad k) (sym ec ∙ e))) refl refl
+  pub not-good : {x k : ℕ} → c ≡ texts.Bad x k → Promise T t u (Bad x k) T t u
+  not-good {x} {k} e = kept (sym (by-check T lent lent′ (texts.Bad x k) (sym ec ∙ e))) refl refl
 
-pub short : (s : List ℕ) {c : Checked} → c ≡ checkOf s → c ≡ text.Good → length s < 2 ^ 32
-short s ec e = omega (arith, check-good s .0 (sym ec ∙ e) .0)
+module _ (T : Texts) {c : Checked} (ec : c ≡ checkOf T) (e : c ≡ texts.Good) where
+  good : GoodTexts T
+  good = good-texts T .0 (sym ec ∙ e)
+
+  pub short-note : length (T .note) < 2 ^ 32
+  short-note = omega (arith, good .note .short)
+
+  pub short-sheet : length (T .sheet) < 2 ^ 32
+  short-sheet = omega (arith, good .sheet .short)
 
 -- refusals 4 and 5 and success leave the rows of the definitions
 rows-there : (d : ℕ) (o : Option ℕ) (n k : ℕ) → within 1 3 (numberOf (withSpans d o n k)) ≡ false
@@ -116,11 +126,11 @@ rows-there d (some place) n k = refl
 rows-there d none n k = by (ltb k n) (λ e. rw e refl) (λ e. rw e refl)
 
 -- the definitions are counted, and nothing is stored
-module _ (s t u : List ℕ) {c : Checked} (ec : c ≡ checkOf s) (good : c ≡ text.Good)
-    {part : List ℕ} (ep : part ≡ definitionTable.filled s (definitions s) []) {count : ℕ} (en : count ≡ length (definitions s))
+module _ (T : Texts) (t u : List ℕ) {c : Checked} (ec : c ≡ checkOf T) (good : c ≡ texts.Good)
+    {part : List ℕ} (ep : part ≡ definitionTable.filled T (joined T) []) {count : ℕ} (en : count ≡ length (joined T))
     {n : ℕ} (el : n ≡ definitionTable.wholeRows (part ++ t)) where
   same : part ++ t ≡ t
-  same = no-part part t (ap length (ep ∙ filled-empty s (definitions s)))
+  same = no-part part t (ap length (ep ∙ filled-empty T (joined T)))
 
   whole-rows : n ≡ definitionTable.wholeRows t
   whole-rows = el ∙ ap (λ (l : List ℕ). definitionTable.wholeRows l) same
@@ -128,44 +138,45 @@ module _ (s t u : List ℕ) {c : Checked} (ec : c ≡ checkOf s) (good : c ≡ t
   abbrev spans : ℕ
   spans = spanTable.wholeRows u
 
-  pub too-few : n < count → Promise s t u (FewDefinitions count) s (part ++ t) u
+  pub too-few : n < count → Promise T t u (FewDefinitions count) T (part ++ t) u
   too-few h =
-      let z : definitionTable.wholeRows t < length (definitions s) = omega (arith, whole-rows, en) in
+      let z : definitionTable.wholeRows t < length (joined T) = omega (arith, whole-rows, en) in
       kept
       (ap FewDefinitions en
-      ∙ sym (by-check s (definitionTable.wholeRows t) spans text.Good (sym ec ∙ good) ∙ too-few-definitions (length (definitions s)) (firstDeep s) (length (spanRows s)) (definitionTable.wholeRows t) spans z))
+      ∙ sym (by-check T (definitionTable.wholeRows t) spans texts.Good (sym ec ∙ good) ∙ too-few-definitions (length (joined T)) (firstDeep T) (length (spanRows T)) (definitionTable.wholeRows t) spans z))
       same refl
 
-  module _ (h : count ≤ n) {t′ : List ℕ} (et : t′ ≡ definitionTable.filled s (definitions s) (part ++ t)) where
-    enough : length (definitions s) ≤ definitionTable.wholeRows t
+  module _ (h : count ≤ n) {t′ : List ℕ} (et : t′ ≡ definitionTable.filled T (joined T) (part ++ t)) where
+    enough : length (joined T) ≤ definitionTable.wholeRows t
     enough = omega (arith, whole-rows, en)
 
-    table : t′ ≡ definitionTable.filled s (definitions s) t
-    table = et ∙ ap (definitionTable.filled s (definitions s)) same
+    table : t′ ≡ definitionTable.filled T (joined T) t
+    table = et ∙ ap (definitionTable.filled T (joined T)) same
 
-    pub defined : Defined s t′ count
+    pub defined : Defined T t′ count
     defined = record {
-      short = check-good s .0 (sym ec ∙ good) .0;
-      fit = table-fit s t enough table en;
+      short = good-texts T .0 (sym ec ∙ good) .note .short;
+      short-sheet = good-texts T .0 (sym ec ∙ good) .sheet .short;
+      fit = table-fit T t enough table en;
       counted = en;
-      rows-are = rw (table, en) (definitions-back s (definitions s) t enough);
+      rows-are = rw (table, en) (entries-back T (joined T) t enough);
     }
 
-    pub all-read : {r : Reading} {u′ : List ℕ} → SpansRead s count u r u′ → Promise s t u r s t′ u′
+    pub all-read : {r : Reading} {u′ : List ℕ} → SpansRead T count u r u′ → Promise T t u r T t′ u′
     all-read {r} m =
-        let e : r ≡ withSpans (length (definitions s)) (firstDeep s) (length (spanRows s)) spans = m .answer ∙ rw en refl in
+        let e : r ≡ withSpans (length (joined T)) (firstDeep T) (length (spanRows T)) spans = m .answer ∙ rw en refl in
         kept
         (e
-        ∙ sym (by-check s (definitionTable.wholeRows t) spans text.Good (sym ec ∙ good) ∙ enough-definitions (length (definitions s)) (firstDeep s) (length (spanRows s)) (definitionTable.wholeRows t) spans enough))
-        (table ∙ rw (e, rows-there (length (definitions s)) (firstDeep s) (length (spanRows s)) spans) refl) (m .spans)
+        ∙ sym (by-check T (definitionTable.wholeRows t) spans texts.Good (sym ec ∙ good) ∙ enough-definitions (length (joined T)) (firstDeep T) (length (spanRows T)) (definitionTable.wholeRows t) spans enough))
+        (table ∙ rw (e, rows-there (length (joined T)) (firstDeep T) (length (spanRows T)) spans) refl) (m .spans)
 
   -- where there are none, the table is the one that was lent
   module _ (h : count ≤ n) (z : count ≡ 0) where
-    still : part ++ t ≡ definitionTable.filled s (definitions s) (part ++ t)
-    still = filled-still s (definitions s) (part ++ t) (sym en ∙ z)
+    still : part ++ t ≡ definitionTable.filled T (joined T) (part ++ t)
+    still = filled-still T (joined T) (part ++ t) (sym en ∙ z)
 
-    pub none-defined : Defined s (part ++ t) count
+    pub none-defined : Defined T (part ++ t) count
     none-defined = defined h still
 
-    pub none-read : {r : Reading} {u′ : List ℕ} → SpansRead s count u r u′ → Promise s t u r s (part ++ t) u′
+    pub none-read : {r : Reading} {u′ : List ℕ} → SpansRead T count u r u′ → Promise T t u r T (part ++ t) u′
     none-read = all-read h still

@@ -9,11 +9,12 @@ use lib.Seq.{length-take-le}
 use Rattle.line.specs.Promise.{Before}
 use Rattle.line.proofs.Lines.{none-before, later}
 use Rattle.marking.specs.ReadingSpans.{spans, over}
-use Rattle.row.specs.declared.Definition.{Definition}
-use Rattle.row.specs.Row.{range}
+use Rattle.texts.specs.Texts.{Texts}
+use Rattle.row.specs.Row.{range, Listed, definitionsOf}
 use Rattle.row.specs.First.{bytesOf, labelsOf}
 use Rattle.row.specs.Reading.{definitionsFrom}
-use Rattle.definition.specs.Reading.{definitions}
+use Rattle.joined.specs.Reading.{joined}
+use Rattle.joined.proofs.Few.{few-joined}
 use Rattle.walk.specs.declared.Paragraph.{Paragraph}
 use Rattle.walk.specs.declared.Paragraph.the-variants as paragraph
 use Rattle.walk.specs.Reading.{paragraphsFrom}
@@ -36,7 +37,6 @@ use Rattle.step.specs.declared.Walk.{Walk}
 use Rattle.note.specs.Note.{depthLimit}
 use Rattle.paragraph.specs.Promise.{Lies, Reads}
 use Rattle.notice.specs.Spans.{Defined, NoteMarked}
-use Rattle.notice.proofs.Few.{few-definitions}
 use Rattle.notice.proofs.Filling.{store-all, filled-numbers, numbers-for}
 
 -- ---- which of the two answers it was
@@ -49,112 +49,112 @@ was-deep none v e = let z : _≡_ {A = ℕ} 0 1 = cc in let no : ⊥ = omega ari
 was-deep (some q) v e = cc
 
 -- reading stands at place `at`; the walk w has passed as many spans as its row says, and the table u₀ has become u
-pub record Going (s u₀ u : List ℕ) (at : ℕ) (w : Walk) : Type 0 where
+pub record Going (T : Texts) (u₀ u : List ℕ) (at : ℕ) (w : Walk) : Type 0 where
   pub passed : List Span
-  pub rows-are : spanRows s ≡ map (numbers s) passed ++ rowsIn s (labels s) (definitions s) (paragraphsFrom s at)
-  pub deep-is : firstDeep s ≡ deepIn (labels s) (paragraphsFrom s at)
+  pub rows-are : spanRows T ≡ map (numbers (T .note)) passed ++ rowsIn (T .note) (labels T) (definitionsOf (joined T)) (paragraphsFrom (T .note) at)
+  pub deep-is : firstDeep T ≡ deepIn (labels T) (paragraphsFrom (T .note) at)
   pub counted : w .row ≡ length passed
-  pub table : u ≡ filled s passed u₀
+  pub table : u ≡ filled (T .note) passed u₀
   pub few : w .row ≤ at
-  pub inside : at ≤ length s
-  pub line : Before s (w .line) at
+  pub inside : at ≤ length (T .note)
+  pub line : Before (T .note) (w .line) at
 
-module _ (s u₀ : List ℕ) where
-  pub starts : {w : Walk} → w ≡ first → Going s u₀ u₀ 0 w
+module _ (T : Texts) (u₀ : List ℕ) where
+  pub starts : {w : Walk} → w ≡ first → Going T u₀ u₀ 0 w
   unfolding spanRows firstDeep
   starts e = record {
     passed = [];
-    rows-are = ap (rowsIn s (labels s) (definitions s)) (sym (all-paragraphs s));
-    deep-is = ap (deepIn (labels s)) (sym (all-paragraphs s));
+    rows-are = ap (rowsIn (T .note) (labels T) (definitionsOf (joined T))) (sym (all-paragraphs (T .note)));
+    deep-is = ap (deepIn (labels T)) (sym (all-paragraphs (T .note)));
     counted = ap (λ (x : Walk). x .row) e;
-    table = sym (filled-none s u₀);
+    table = sym (filled-none (T .note) u₀);
     few = omega (arith, ap (λ (x : Walk). x .row) e);
     inside = omega arith;
-    line = rw e (none-before s);
+    line = rw e (none-before (T .note));
   }
 
-  module _ {u : List ℕ} {at : ℕ} {w : Walk} (g : Going s u₀ u at w) where
+  module _ {u : List ℕ} {at : ℕ} {w : Walk} (g : Going T u₀ u at w) where
     pub same-size : length u ≡ length u₀
-    same-size = ap length (g .table) ∙ length-filled s (g .passed) u₀
+    same-size = ap length (g .table) ∙ length-filled (T .note) (g .passed) u₀
 
     pub still-same-size : (u′ : List ℕ) → length u′ ≡ length u → length u′ ≡ length u₀
     still-same-size u′ e = e ∙ same-size
 
     -- no paragraph is left
-    pub all-passed : {x : Paragraph} → IsParagraph s at x → x ≡ paragraph.End → NoteMarked s u₀ (Spans w) u
+    pub all-passed : {x : Paragraph} → IsParagraph (T .note) at x → x ≡ paragraph.End → NoteMarked T u₀ (Spans w) u
     unfolding rowsIn deepIn
     all-passed q e =
-        let none-left : paragraphsFrom s at ≡ [] = rw e at q in
-        let rows : spanRows s ≡ map (numbers s) (g .passed) = g .rows-are ∙ rw none-left (append-nil (map (numbers s) (g .passed))) in
-        let never : firstDeep s ≡ none = g .deep-is ∙ rw none-left refl in
-        let count : w .row ≡ length (spanRows s) = g .counted ∙ sym (ap length rows ∙ length-map (g .passed) (numbers s)) in
-        record { walk = w; answer = rw never refl; counted = λ z. count; table = λ z. g .table ∙ filled-numbers s (g .passed) u₀ ∙ rw rows refl }
+        let none-left : paragraphsFrom (T .note) at ≡ [] = rw e at q in
+        let rows : spanRows T ≡ map (numbers (T .note)) (g .passed) = g .rows-are ∙ rw none-left (append-nil (map (numbers (T .note)) (g .passed))) in
+        let never : firstDeep T ≡ none = g .deep-is ∙ rw none-left refl in
+        let count : w .row ≡ length (spanRows T) = g .counted ∙ sym (ap length rows ∙ length-map (g .passed) (numbers (T .note))) in
+        record { walk = w; answer = rw never refl; counted = λ z. count; table = λ z. g .table ∙ filled-numbers (T .note) (g .passed) u₀ ∙ rw rows refl }
 
-    module _ {x : Paragraph} (q : IsParagraph s at x) {a e n : ℕ} (ex : x ≡ paragraph.At a e n) where
-      here : FirstParagraph s at a e n
+    module _ {x : Paragraph} (q : IsParagraph (T .note) at x) {a e n : ℕ} (ex : x ≡ paragraph.At a e n) where
+      here : FirstParagraph (T .note) at a e n
       here = rw ex at q
 
-      pub less : length s - n < length s - at
+      pub less : length (T .note) - n < length (T .note) - at
       less = omega (arith, here .onward, here .inside)
 
-      line-before : Before s (w .line) a
+      line-before : Before (T .note) (w .line) a
       line-before = later (g .line) (here .low) (omega (arith, here .ordered, here .ends, here .inside))
 
-      pub place-fits : {t : List ℕ} {count : ℕ} → Defined s t count → Lies s a e count w
+      pub place-fits : {t : List ℕ} {count : ℕ} → Defined T t count → Lies (T .note) a e count w
       place-fits d = record {
         ordered = here .ordered;
         inside = omega (arith, here .ends, here .inside);
         places = omega (arith, d .short);
-        definitions = omega (arith, d .short, d .counted, few-definitions s);
+        definitions = omega (arith, d .short, d .short-sheet, d .counted, few-joined T);
         rows = omega (arith, d .short, g .few, g .inside);
         line = line-before;
       }
 
-      module _ {t : List ℕ} {count : ℕ} (d : Defined s t count) {r : Tally} {u′ : List ℕ}
-          (m : Reads s a (bytesOf s (range a e)) (labelsIn s t count) (definitionsFrom t 0 count) (w .row) u r u′) where
+      module _ {t : List ℕ} {count : ℕ} (d : Defined T t count) {r : Tally} {u′ : List ℕ}
+          (m : Reads (T .note) a (bytesOf (T .note) (range a e)) (labelsIn T t count) (definitionsFrom t 0 count) (w .row) u r u′) where
         abbrev p : List ℕ
-        p = bytesOf s (range a e)
+        p = bytesOf (T .note) (range a e)
 
-        -- the paragraph with the note's own definitions
-        read : Reads s a p (labelsOf s (definitions s)) (definitions s) (w .row) u r u′
-        read = subst (λ (ds : List Definition). Reads s a p (labelsOf s ds) ds (w .row) u r u′) (d .rows-are) m
+        -- the paragraph with the definitions of the joined list
+        read : Reads (T .note) a p (labelsOf T (joined T)) (definitionsOf (joined T)) (w .row) u r u′
+        read = subst (λ (js : List Listed). Reads (T .note) a p (labelsOf T js) (definitionsOf js) (w .row) u r u′) (d .rows-are) m
 
         size : length p ≡ e - a
-        size = length-take-le (e - a) (drop a s) (omega (arith, length-drop a s, here .ends, here .inside))
+        size = length-take-le (e - a) (drop a (T .note)) (omega (arith, length-drop a (T .note), here .ends, here .inside))
 
-        first-too-many : {place : ℕ} → r ≡ Deep place → firstDeep s ≡ some (a + place)
+        first-too-many : {place : ℕ} → r ≡ Deep place → firstDeep T ≡ some (a + place)
         unfolding deepIn labels
         first-too-many {place} er =
-            let o : over depthLimit (grammar p (labels s)) ≡ some place = was-deep (over depthLimit (grammar p (labels s))) (read .walk) (sym (read .answer) ∙ er) in
+            let o : over depthLimit (grammar p (labels T)) ≡ some place = was-deep (over depthLimit (grammar p (labels T))) (read .walk) (sym (read .answer) ∙ er) in
             g .deep-is ∙ rw (here .first, o) refl
 
         pub place-within : {place : ℕ} → r ≡ Deep place → a + place < 2 ^ 64
-        place-within {place} er = omega (arith, d .short, first-deep-bracket s (a + place) (first-too-many er) .0)
+        place-within {place} er = omega (arith, d .short, first-deep-bracket T (a + place) (first-too-many er) .0)
 
-        pub too-deep : {place : ℕ} → r ≡ Deep place → NoteMarked s u₀ (Deep (a + place)) u′
+        pub too-deep : {place : ℕ} → r ≡ Deep place → NoteMarked T u₀ (Deep (a + place)) u′
         too-deep {place} er =
-            let f : firstDeep s ≡ some (a + place) = first-too-many er in
+            let f : firstDeep T ≡ some (a + place) = first-too-many er in
             record { walk = read .walk; answer = rw f refl; counted = λ z. let no : ⊥ = omega arith in absurd no; table = λ z. let no : ⊥ = omega arith in absurd no }
 
-        pub further : {w′ : Walk} → r ≡ Spans w′ → Going s u₀ u′ n w′
+        pub further : {w′ : Walk} → r ≡ Spans w′ → Going T u₀ u′ n w′
         unfolding rowsIn deepIn labels
         further {w′} er =
-            let (o, j) = was-spans (over depthLimit (grammar p (labels s))) (read .walk) (sym (read .answer) ∙ er) in
-            let c : w′ .row ≡ w .row + length (spans (grammar p (labels s))) = sym (ap (λ (x : Walk). x .row) j) ∙ read .row (ap numberOf er) in
-            let ls = labels s in
-            let ds = definitions s in
+            let (o, j) = was-spans (over depthLimit (grammar p (labels T))) (read .walk) (sym (read .answer) ∙ er) in
+            let c : w′ .row ≡ w .row + length (spans (grammar p (labels T))) = sym (ap (λ (x : Walk). x .row) j) ∙ read .row (ap numberOf er) in
+            let ls = labels T in
+            let ds = definitionsOf (joined T) in
             let xs : List Span = rowsFor a p ls ds in
             let x-length : length xs ≡ length (spans (grammar p ls)) = length-map (spans (grammar p ls)) _ in
             record {
               passed = g .passed ++ xs;
               rows-are =
                   g .rows-are
-                  ∙ rw (here .first, map-append (numbers s) (g .passed) xs, numbers-for s a p ds (spans (grammar p ls)))
-                  (sym (append-assoc (map (numbers s) (g .passed)) (map (spanRow s a p ds) (spans (grammar p ls))) (rowsIn s ls ds (paragraphsFrom s n))));
+                  ∙ rw (here .first, map-append (numbers (T .note)) (g .passed) xs, numbers-for (T .note) a p ds (spans (grammar p ls)))
+                  (sym (append-assoc (map (numbers (T .note)) (g .passed)) (map (spanRow (T .note) a p ds) (spans (grammar p ls))) (rowsIn (T .note) ls ds (paragraphsFrom (T .note) n))));
               deep-is = g .deep-is ∙ rw (here .first, o) refl;
               counted = omega (arith, c, x-length, g .counted, length-append (g .passed) xs);
-              table = read .table (ap numberOf er) ∙ store-all s u₀ (g .passed) xs (g .table) (g .counted);
+              table = read .table (ap numberOf er) ∙ store-all (T .note) u₀ (g .passed) xs (g .table) (g .counted);
               few = omega (arith, c, read .few (ap numberOf er), size, g .few, here .low, here .ends, here .ordered);
               inside = here .inside;
-              line = subst (λ (x : Walk). Before s (x .line) n) j (later (read .line (ap numberOf er)) (omega (arith, size, here .ordered, here .ends)) (here .inside));
+              line = subst (λ (x : Walk). Before (T .note) (x .line) n) j (later (read .line (ap numberOf er)) (omega (arith, size, here .ordered, here .ends)) (here .inside));
             }

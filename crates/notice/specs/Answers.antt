@@ -1,15 +1,18 @@
--- Which answer the reader gives to a note, where so many whole definition rows and span rows are lent. Document 01, "Refusal numbers".
+-- Which answer the reader gives to a note and the sheet beside it, where so many whole definition rows and span rows are lent. Document 01, "Refusal numbers", and
+-- document 02, request 1.
 use Prim.Native.Nat.{ℕ, _≤_, _<_}
 use mathlib.Core.Path.{_≡_}
 use mathlib.Core.Option.{some}
 use mathlib.Core.List.{List}
 use lib.ListN.{length, getElem?}
-use Rattle.text.specs.Utf8.{FirstBad, noteLimit, TooLong, Unclean, GoodNote}
+use Rattle.text.specs.Utf8.{FirstBad}
+use Rattle.texts.specs.Texts.{Texts, textOf}
+use Rattle.texts.specs.Answers.{Due1, Due2, GoodTexts}
 use Rattle.marking.specs.Marking.{Marking}
 use Rattle.marking.specs.Open.{openBrackets}
 use Rattle.block.specs.Block.{Placed}
-use Rattle.row.specs.declared.Definition.{Definition}
-use Rattle.definition.specs.Note.{NoteIs}
+use Rattle.row.specs.Row.{Listed}
+use Rattle.joined.specs.Joined.{JoinedIs}
 use Rattle.inline.specs.Tails.{Tail}
 use Rattle.note.specs.Note.{depthLimit, Marked, EachRowOnce, FirstDeep, NeverDeep}
 use Rattle.notice.specs.declared.Reading.{Reading}
@@ -19,8 +22,8 @@ use Rattle.notice.specs.declared.Reading.the-variants.{Read, Long, Bad, 
 -- "Success is number 0", and the refusals of the reader
 abbrev pub numberOf : Reading → ℕ
 numberOf (Read d n) = 0
-numberOf (Long n) = 1
-numberOf (Bad k) = 2
+numberOf (Long x n) = 1
+numberOf (Bad x k) = 2
 numberOf (FewDefinitions n) = 3
 numberOf (Deep k) = 4
 numberOf (FewSpans n) = 5
@@ -28,8 +31,8 @@ numberOf (FewSpans n) = 5
 -- "Returned with it"
 abbrev pub valueOf : Reading → ℕ
 valueOf (Read d n) = 0
-valueOf (Long n) = n
-valueOf (Bad k) = k
+valueOf (Long x n) = n
+valueOf (Bad x k) = k
 valueOf (FewDefinitions n) = n
 valueOf (Deep k) = k
 valueOf (FewSpans n) = n
@@ -37,32 +40,41 @@ valueOf (FewSpans n) = n
 -- "with the counts of definitions and spans"
 abbrev pub definitionCount : Reading → ℕ
 definitionCount (Read d n) = d
-definitionCount (Long n) = 0
-definitionCount (Bad k) = 0
+definitionCount (Long x n) = 0
+definitionCount (Bad x k) = 0
 definitionCount (FewDefinitions n) = 0
 definitionCount (Deep k) = 0
 definitionCount (FewSpans n) = 0
 
 abbrev pub spanCount : Reading → ℕ
 spanCount (Read d n) = n
-spanCount (Long n) = 0
-spanCount (Bad k) = 0
+spanCount (Long x n) = 0
+spanCount (Bad x k) = 0
 spanCount (FewDefinitions n) = 0
 spanCount (Deep k) = 0
 spanCount (FewSpans n) = 0
 
+-- "say which text, 0 the note, 1 the sheet; an answer about neither says 0"
+abbrev pub namedOf : Reading → ℕ
+namedOf (Read d n) = 0
+namedOf (Long x n) = x
+namedOf (Bad x k) = x
+namedOf (FewDefinitions n) = 0
+namedOf (Deep k) = 0
+namedOf (FewSpans n) = 0
+
 -- ---- what is counted
--- the note has so many definitions, "repeats too"
-pub record DefinitionsCounted (s : List ℕ) (count : ℕ) : Type 0 where
-  pub definitions : List Definition
+-- the texts have so many definitions, "repeats too": "Refusal 3 counts both."
+pub record DefinitionsCounted (T : Texts) (count : ℕ) : Type 0 where
+  pub list : List Listed
   pub paragraphs : List Placed
-  pub note : NoteIs s definitions paragraphs
-  pub counted : length definitions ≡ count
+  pub joins : JoinedIs T list paragraphs
+  pub counted : length list ≡ count
 
 -- the note has so many spans
-pub record SpansCounted (s : List ℕ) (count : ℕ) : Type 0 where
+pub record SpansCounted (T : Texts) (count : ℕ) : Type 0 where
   pub rows : List (List ℕ)
-  pub each-once : EachRowOnce s rows
+  pub each-once : EachRowOnce T rows
   pub counted : length rows ≡ count
 
 -- "fewer whole definition rows lent than definitions", "fewer whole span rows lent than spans"
@@ -77,46 +89,41 @@ pub record Enough (lent : ℕ) (Counted : ℕ → Type 0) : Type 0 where
   pub counted : Counted needed
   pub enough : needed ≤ lent
 
--- 4: some paragraph has over `depthLimit` brackets open at once
-pub record SomeDeep (s : List ℕ) : Type 0 where
-  pub marked : Marked s
+-- 4: some paragraph of the note has over `depthLimit` brackets open at once
+pub record SomeDeep (T : Texts) : Type 0 where
+  pub marked : Marked T
   pub index : ℕ
   pub marking : Marking Tail
   pub marking-at : getElem? (marked .markings) index ≡ some marking
   pub point : ℕ
   pub over : depthLimit < openBrackets marking point
 
--- ---- "Given exactly when", where "The first that applies, in order 1 to 6, is the answer": each where none before it applies
-module _ (s : List ℕ) (definition-rows span-rows : ℕ) where
-  abbrev pub Due1 : Type 0
-  Due1 = TooLong s
-
-  abbrev pub Due2 : Type 0
-  Due2 = (length s ≤ noteLimit) × Unclean s
-
+-- ---- "Given exactly when", where "The first that applies, in order 1 to 6, is the answer": each where none before it applies; 1 and 2 are due for a text by `Due1` and
+-- `Due2` of the two texts
+module _ (T : Texts) (definition-rows span-rows : ℕ) where
   abbrev pub Due3 : Type 0
-  Due3 = GoodNote s × Fewer definition-rows (DefinitionsCounted s)
+  Due3 = GoodTexts T × Fewer definition-rows (DefinitionsCounted T)
 
   abbrev pub Due4 : Type 0
-  Due4 = GoodNote s × Enough definition-rows (DefinitionsCounted s) × SomeDeep s
+  Due4 = GoodTexts T × Enough definition-rows (DefinitionsCounted T) × SomeDeep T
 
   abbrev pub Due5 : Type 0
-  Due5 = GoodNote s × Enough definition-rows (DefinitionsCounted s) × NeverDeep s × Fewer span-rows (SpansCounted s)
+  Due5 = GoodTexts T × Enough definition-rows (DefinitionsCounted T) × NeverDeep T × Fewer span-rows (SpansCounted T)
 
   -- success
   abbrev pub Due0 : Type 0
-  Due0 = GoodNote s × Enough definition-rows (DefinitionsCounted s) × NeverDeep s × Enough span-rows (SpansCounted s)
+  Due0 = GoodTexts T × Enough definition-rows (DefinitionsCounted T) × NeverDeep T × Enough span-rows (SpansCounted T)
 
   -- the answer, with what is "Returned with it"
   pub data Answers : Reading → Type 0 where
     -- "its length"
-    long : Due1 → Answers (Long (length s))
+    long : {x : ℕ} → Due1 T x → Answers (Long x (length (textOf T x)))
     -- "where reading from the start first meets no good character"
-    bad : {place : ℕ} → Due2 → FirstBad s place → Answers (Bad place)
+    bad : {x place : ℕ} → Due2 T x → FirstBad (textOf T x) place → Answers (Bad x place)
     -- "rows needed"
     few-definitions : (due : Due3) → Answers (FewDefinitions (due .1 .needed))
     -- "place of the first bracket too many"
-    deep : {place : ℕ} → Due4 → FirstDeep s place → Answers (Deep place)
+    deep : {place : ℕ} → Due4 → FirstDeep T place → Answers (Deep place)
     -- "rows needed"
     few-spans : (due : Due5) → Answers (FewSpans (due .3 .needed))
     -- "with the counts of definitions and spans"

@@ -1,24 +1,26 @@
--- What the reader promises: its answer and the two tables at exit, as definitions of the note and of what was lent. Document 01, "Refusal numbers".
+-- What the reader promises: its answer and the two tables at exit, as definitions of the two texts and of what was lent. Document 01, "Refusal numbers".
 use Prim.Native.Nat.{ℕ}
 use mathlib.Core.Path.{_≡_}
 use mathlib.Core.List.{List}
+use Rattle.texts.specs.Texts.{Texts}
 use Rattle.row.specs.Row as definitionTable
 use Rattle.span.specs.Row as spanTable
 use Rattle.notice.specs.declared.Reading.{Reading}
-use Rattle.notice.specs.Answers.{numberOf, valueOf, definitionCount, spanCount}
+use Rattle.notice.specs.Answers.{numberOf, valueOf, namedOf, definitionCount, spanCount}
 use Rattle.notice.specs.Reading.{readingOf, definitionTableOf, spanTableOf}
 
 -- the answer where the tables t and u are lent
-abbrev pub answerTo : List ℕ → List ℕ → List ℕ → Reading
-answerTo s t u = readingOf s (definitionTable.wholeRows t) (spanTable.wholeRows u)
+abbrev pub answerTo : Texts → List ℕ → List ℕ → Reading
+answerTo T t u = readingOf T (definitionTable.wholeRows t) (spanTable.wholeRows u)
 
--- For the note s, the definition table t and the span table u, the reader answers r and leaves s′, t′ and u′.
-pub record Promise (s t u : List ℕ) (r : Reading) (s′ t′ u′ : List ℕ) : Type 0 where
-  pub answer : r ≡ answerTo s t u
-  pub number : numberOf r ≡ numberOf (answerTo s t u)
-  pub value : valueOf r ≡ valueOf (answerTo s t u)
-  pub definitions-counted : definitionCount r ≡ definitionCount (answerTo s t u)
-  pub spans-counted : spanCount r ≡ spanCount (answerTo s t u)
-  pub definitions : t′ ≡ definitionTableOf s (numberOf r) t
-  pub spans : u′ ≡ spanTableOf s (numberOf r) u
-  pub note : s′ ≡ s
+-- For the texts T, the definition table t and the span table u, the reader answers r and leaves T′, t′ and u′.
+pub record Promise (T : Texts) (t u : List ℕ) (r : Reading) (T′ : Texts) (t′ u′ : List ℕ) : Type 0 where
+  pub answer : r ≡ answerTo T t u
+  pub number : numberOf r ≡ numberOf (answerTo T t u)
+  pub value : valueOf r ≡ valueOf (answerTo T t u)
+  pub named : namedOf r ≡ namedOf (answerTo T t u)
+  pub definitions-counted : definitionCount r ≡ definitionCount (answerTo T t u)
+  pub spans-counted : spanCount r ≡ spanCount (answerTo T t u)
+  pub definitions : t′ ≡ definitionTableOf T (numberOf r) t
+  pub spans : u′ ≡ spanTableOf T (numberOf r) u
+  pub texts : T′ ≡ T

@@ -1,7 +1,7 @@
 // Document 01's numbers of an answer.
 use crate::Reading;
 ghost use mathlib.Core.Path.{_≡_};
-ghost use Rattle.notice.specs.Answers.{numberOf, valueOf, definitionCount, spanCount};
+ghost use Rattle.notice.specs.Answers.{numberOf, valueOf, namedOf, definitionCount, spanCount};
 
 // The answer's number.
 pub fn number(reading: Reading) -> u64
@@ -9,8 +9,8 @@ pub fn number(reading: Reading) -> u64
 {
     match reading {
         Reading::Read(_, _) => 0,
-        Reading::Long(_) => 1,
-        Reading::Bad(_) => 2,
+        Reading::Long(_, _) => 1,
+        Reading::Bad(_, _) => 2,
         Reading::FewDefinitions(_) => 3,
         Reading::Deep(_) => 4,
         Reading::FewSpans(_) => 5,
@@ -23,11 +23,25 @@ pub fn value(reading: Reading) -> u64
 {
     match reading {
         Reading::Read(_, _) => 0,
-        Reading::Long(n) => n as u64,
-        Reading::Bad(k) => k as u64,
+        Reading::Long(_, n) => n as u64,
+        Reading::Bad(_, k) => k as u64,
         Reading::FewDefinitions(n) => n as u64,
         Reading::Deep(k) => k as u64,
         Reading::FewSpans(n) => n as u64,
+    }
+}
+
+// The text that the answer is about; 0 where it is about neither.
+pub fn text(reading: Reading) -> u64
+    ensures { λ r. ⌜ r ≡ namedOf reading ⌝ }
+{
+    match reading {
+        Reading::Read(_, _) => 0,
+        Reading::Long(x, _) => x as u64,
+        Reading::Bad(x, _) => x as u64,
+        Reading::FewDefinitions(_) => 0,
+        Reading::Deep(_) => 0,
+        Reading::FewSpans(_) => 0,
     }
 }
 
@@ -37,8 +51,8 @@ pub fn definition_count(reading: Reading) -> u64
 {
     match reading {
         Reading::Read(d, _) => d as u64,
-        Reading::Long(_) => 0,
-        Reading::Bad(_) => 0,
+        Reading::Long(_, _) => 0,
+        Reading::Bad(_, _) => 0,
         Reading::FewDefinitions(_) => 0,
         Reading::Deep(_) => 0,
         Reading::FewSpans(_) => 0,
@@ -51,8 +65,8 @@ pub fn span_count(reading: Reading) -> u64
 {
     match reading {
         Reading::Read(_, n) => n as u64,
-        Reading::Long(_) => 0,
-        Reading::Bad(_) => 0,
+        Reading::Long(_, _) => 0,
+        Reading::Bad(_, _) => 0,
         Reading::FewDefinitions(_) => 0,
         Reading::Deep(_) => 0,
         Reading::FewSpans(_) => 0,

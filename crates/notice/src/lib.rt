@@ -1,20 +1,21 @@
-// The reader of a notice.
+// The reader of a notice, with a sheet of definitions beside it.
 pub mod answer;
 
 ghost use mathlib.Core.Path.{_≡_};
+ghost use Rattle.texts.specs.Texts.{texts};
 ghost use Rattle.paragraph.specs.Promise.{Lent};
 ghost use Rattle.notice.specs.Promise.{Promise};
 ghost use Rattle.notice.specs.Spans.{Defined, NoteMarked, SpansRead};
 use paragraph::Tally;
 use step::Walk;
-use text::Checked;
+use texts::Checked;
 use walk::Paragraph;
 
-// What the reader answers: the counts of definitions and spans, or a refusal with its value.
+// What the reader answers: the counts of definitions and spans, or a refusal with its value; 1 and 2 with the text that they are about before it.
 pub enum Reading {
     Read(usize, usize),
-    Long(usize),
-    Bad(usize),
+    Long(usize, usize),
+    Bad(usize, usize),
     FewDefinitions(usize),
     Deep(usize),
     FewSpans(usize),
@@ -24,18 +25,19 @@ pub enum Reading {
 const MARKS: usize = 32769;
 
 // The spans of the note's paragraphs: stores their rows, as many as fit, and counts them; or the place of the first bracket too many.
-fn note_spans(
-    note: &[u8],
-    definitions: &[u32],
+fn note_spans<'a>(
+    note: &'a [u8],
+    sheet: &'a [u8],
+    table: &[u32],
     count: usize,
     spans: &mut [u32],
     stack: &mut [u32],
     runs: &mut [u32; ticks::LENGTHS],
     marks: &mut [u8],
 ) -> Tally
-    requires { ⌜ Defined (now note) (now definitions) count ⌝ }
+    requires { ⌜ Defined (texts (now note) (now sheet)) (now table) count ⌝ }
     requires { ⌜ Lent (now note) (now stack) (now marks) ⌝ }
-    ensures { λ r. ⌜ NoteMarked (now (note .entry)) (now (spans .entry)) r (now (spans .exit)) ⌝ }
+    ensures { λ r. ⌜ NoteMarked (texts (now (note .entry)) (now (sheet .entry))) (now (spans .entry)) r (now (spans .exit)) ⌝ }
 {
     let mut at = 0;
     let mut w = Walk::first();
@@ -45,9 +47,10 @@ fn note_spans(
         };
         match paragraph::read_paragraph(
             note,
+            sheet,
             start,
             end,
-            definitions,
+            table,
             count,
             spans,
             w,
@@ -62,24 +65,23 @@ fn note_spans(
     }
 }
 
-// The answer after refusals 1 to 3: fills the span table, or refuses.
-fn read_spans(note: &[u8], definitions: &[u32], count: usize, spans: &mut [u32]) -> Reading
-    requires { ⌜ Defined (now note) (now definitions) count ⌝ }
-    ensures { λ r. ⌜ SpansRead (now (note .entry)) count (now (spans .entry)) r (now (spans .exit)) ⌝ }
+// The answer after refusals 1 to 3: counts the spans, and then stores their rows or refuses.
+fn answer_spans<'a>(
+    note: &'a [u8],
+    sheet: &'a [u8],
+    table: &[u32],
+    count: usize,
+    spans: &mut [u32],
+    stack: &mut [u32],
+    runs: &mut [u32; ticks::LENGTHS],
+    marks: &mut [u8],
+) -> Reading
+    requires { ⌜ Defined (texts (now note) (now sheet)) (now table) count ⌝ }
+    requires { ⌜ Lent (now note) (now stack) (now marks) ⌝ }
+    ensures { λ r. ⌜ SpansRead (texts (now (note .entry)) (now (sheet .entry))) count (now (spans .entry)) r (now (spans .exit)) ⌝ }
 {
-    // Made once for a note, and lent to each paragraph.
-    let mut stack = [0; paragraph::STACK];
-    let mut runs = [0; ticks::LENGTHS];
-    let mut marks = [0u8; MARKS];
-    match note_spans(
-        note,
-        definitions,
-        count,
-        &mut spans[..0],
-        &mut stack,
-        &mut runs,
-        &mut marks,
-    ) {
+    let none = &mut spans[..0];
+    match note_spans(note, sheet, table, count, none, stack, runs, marks) {
         Tally::Deep(place) => Reading::Deep(place),
         Tally::Spans(w) => {
             // Here too nothing is read again where there is no row to store.
@@ -89,41 +91,64 @@ fn read_spans(note: &[u8], definitions: &[u32], count: usize, spans: &mut [u32])
             if span::whole_rows(spans) < w.row {
                 return Reading::FewSpans(w.row);
             }
-            note_spans(
-                note,
-                definitions,
-                count,
-                spans,
-                &mut stack,
-                &mut runs,
-                &mut marks,
-            );
+            note_spans(note, sheet, table, count, spans, stack, runs, marks);
             Reading::Read(count, w.row)
         }
     }
 }
 
-// Reads a note: fills the two tables that are lent, or refuses.
-pub fn read(note: &[u8], definitions: &mut [u32], spans: &mut [u32]) -> Reading
-    ensures { λ r. ⌜ Promise (now (note .entry)) (now (definitions .entry)) (now (spans .entry)) r (now (note .exit)) (now (definitions .exit)) (now (spans .exit)) ⌝ }
+// The same with what is lent to each paragraph, made once for a note.
+fn read_spans<'a>(
+    note: &'a [u8],
+    sheet: &'a [u8],
+    table: &[u32],
+    count: usize,
+    spans: &mut [u32],
+) -> Reading
+    requires { ⌜ Defined (texts (now note) (now sheet)) (now table) count ⌝ }
+    ensures { λ r. ⌜ SpansRead (texts (now (note .entry)) (now (sheet .entry))) count (now (spans .entry)) r (now (spans .exit)) ⌝ }
 {
-    match text::check(note) {
-        Checked::Long(n) => {
-            return Reading::Long(n);
+    let mut stack = [0; paragraph::STACK];
+    let mut runs = [0; ticks::LENGTHS];
+    let mut marks = [0u8; MARKS];
+    answer_spans(
+        note,
+        sheet,
+        table,
+        count,
+        spans,
+        &mut stack,
+        &mut runs,
+        &mut marks,
+    )
+}
+
+// Reads a note with the sheet beside it: fills the two tables that are lent, or refuses.
+pub fn read<'a>(
+    note: &'a [u8],
+    sheet: &'a [u8],
+    definitions: &mut [u32],
+    spans: &mut [u32],
+) -> Reading
+    ensures { λ r. ⌜ Promise (texts (now (note .entry)) (now (sheet .entry))) (now (definitions .entry)) (now (spans .entry)) r (texts (now (note .exit)) (now (sheet .exit))) (now (definitions .exit)) (now (spans .exit)) ⌝ }
+{
+    match texts::check(note, sheet) {
+        Checked::Long(x, n) => {
+            return Reading::Long(x, n);
         }
-        Checked::Bad(k) => {
-            return Reading::Bad(k);
+        Checked::Bad(x, k) => {
+            return Reading::Bad(x, k);
         }
         Checked::Good => {}
     }
-    let count = table::fill_definitions(note, &mut definitions[..0]);
+    let count = table::fill_joined(note, sheet, &mut definitions[..0]);
     if row::whole_rows(definitions) < count {
         return Reading::FewDefinitions(count);
     }
     // Nothing is read again where there is no row to store.
     if count == 0 {
-        return read_spans(note, definitions, count, spans);
+        return read_spans(note, sheet, definitions, count, spans);
     }
-    table::fill_definitions(note, definitions);
-    read_spans(note, definitions, count, spans)
+    table::fill_joined(note, sheet, definitions);
+    read_spans(note, sheet, definitions, count, spans)
 }

@@ -7,6 +7,7 @@ use mathlib.Core.List.{List}
 use mathlib.Core.Bool.{Bool, true, false, true≢false}
 use Rattle.matching.specs.Reading.{matches}
 use Rattle.matching.proofs.Equality.{matches-equal}
+use Rattle.texts.specs.Texts.{Texts}
 use Rattle.enquiry.specs.Enquiry as enquiry
 use Rattle.enquiry.specs.Answers.{GoodLabel}
 use Rattle.enquiry.specs.Reading.{enquiryOf}
@@ -48,8 +49,8 @@ module _ {a b a′ b′ : List ℕ} {n : ℕ} (p : SameLabelPromise a b n a′ b
   one-answer q = (p .answered ∙ sym (q .answered), p .a-kept ∙ sym (q .a-kept), p .b-kept ∙ sym (q .b-kept))
 
   -- labels that are called equal, and that the enquiry does not refuse, get one answer from it
-  pub opens-alike : n ≡ 1 → GoodLabel a → GoodLabel b → {note : List ℕ} {k k₂ : ℕ} {note₁ a₁ answer₁ note₂ b₂ answer₂ : List ℕ}
-      → ResolvePromise note a k note₁ a₁ answer₁ → ResolvePromise note b k₂ note₂ b₂ answer₂ → (k ≡ k₂) × (answer₁ ≡ answer₂)
-  opens-alike e g h {note} r s =
-      let q : enquiryOf note a ≡ enquiryOf note b = one-enquiry note a b (p .equal .0 e) g h in
+  pub opens-alike : n ≡ 1 → GoodLabel a → GoodLabel b → {T T₁ T₂ : Texts} {k k₂ : ℕ} {a₁ answer₁ b₂ answer₂ : List ℕ}
+      → ResolvePromise T a k T₁ a₁ answer₁ → ResolvePromise T b k₂ T₂ b₂ answer₂ → (k ≡ k₂) × (answer₁ ≡ answer₂)
+  opens-alike e g h {T} r s =
+      let q : enquiryOf T a ≡ enquiryOf T b = one-enquiry T a b (p .equal .0 e) g h in
       (r .answered ∙ ap enquiry.numberOf q ∙ sym (s .answered), r .numbers ∙ ap numbersOf q ∙ sym (s .numbers))

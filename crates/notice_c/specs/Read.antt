@@ -2,24 +2,25 @@
 use Prim.Native.Nat.{ℕ}
 use mathlib.Core.Path.{_≡_}
 use mathlib.Core.List.{List, [], _∷_}
+use Rattle.texts.specs.Texts.{Texts}
 use Rattle.row.specs.Row as definitionTable
 use Rattle.span.specs.Row as spanTable
 use Rattle.notice.specs.declared.Reading.{Reading}
-use Rattle.notice.specs.Answers.{numberOf, valueOf, definitionCount, spanCount}
+use Rattle.notice.specs.Answers.{numberOf, valueOf, namedOf, definitionCount, spanCount}
 use Rattle.notice.specs.Reading.{readingOf, definitionTableOf, spanTableOf}
 
--- the reader's answer to the note s with the definition table t and the span table u
-abbrev pub reading : List ℕ → List ℕ → List ℕ → Reading
-reading s t u = readingOf s (definitionTable.wholeRows t) (spanTable.wholeRows u)
+-- the reader's answer to the texts T with the definition table t and the span table u
+abbrev pub reading : Texts → List ℕ → List ℕ → Reading
+reading T t u = readingOf T (definitionTable.wholeRows t) (spanTable.wholeRows u)
 
--- the value, then "the counts of definitions and spans"
+-- the value, then "the counts of definitions and spans", then the text
 abbrev pub numbersOf : Reading → List ℕ
-numbersOf r = valueOf r ∷ definitionCount r ∷ spanCount r ∷ []
+numbersOf r = valueOf r ∷ definitionCount r ∷ spanCount r ∷ namedOf r ∷ []
 
--- The call returns `number` and leaves s′, t′ and u′ and the three numbers `answer`.
-pub record ReadPromise (s t u : List ℕ) (number : ℕ) (s′ t′ u′ answer : List ℕ) : Type 0 where
-  pub answered : number ≡ numberOf (reading s t u)
-  pub numbers : answer ≡ numbersOf (reading s t u)
-  pub definitions : t′ ≡ definitionTableOf s (numberOf (reading s t u)) t
-  pub spans : u′ ≡ spanTableOf s (numberOf (reading s t u)) u
-  pub note : s′ ≡ s
+-- The call returns `number` and leaves T′, t′ and u′ and the four numbers `answer`.
+pub record ReadPromise (T : Texts) (t u : List ℕ) (number : ℕ) (T′ : Texts) (t′ u′ answer : List ℕ) : Type 0 where
+  pub answered : number ≡ numberOf (reading T t u)
+  pub numbers : answer ≡ numbersOf (reading T t u)
+  pub definitions : t′ ≡ definitionTableOf T (numberOf (reading T t u)) t
+  pub spans : u′ ≡ spanTableOf T (numberOf (reading T t u)) u
+  pub texts : T′ ≡ T

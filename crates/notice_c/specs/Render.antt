@@ -3,26 +3,27 @@ use Prim.Native.Nat.{ℕ}
 use mathlib.Core.Path.{_≡_}
 use mathlib.Core.List.{List, [], _∷_}
 use lib.ListN.{length}
+use Rattle.texts.specs.Texts.{Texts}
 use Rattle.row.specs.Row as definitionTable
 use Rattle.span.specs.Row as spanTable
 use Rattle.notice.specs.Reading.{definitionTableOf, spanTableOf}
 use Rattle.rendering.specs.declared.Rendering.{Rendering}
-use Rattle.rendering.specs.Answers.{numberOf, valueOf, definitionCount, spanCount, pageLength}
+use Rattle.rendering.specs.Answers.{numberOf, valueOf, namedOf, definitionCount, spanCount, pageLength}
 use Rattle.rendering.specs.Reading.{renderingOf, pageBufferOf}
 
--- the page writer's answer to the note s with the definition table t, the span table u and the page buffer p
-abbrev pub rendering : List ℕ → List ℕ → List ℕ → List ℕ → Rendering
-rendering s t u p = renderingOf s (definitionTable.wholeRows t) (spanTable.wholeRows u) (length p)
+-- the page writer's answer to the texts T with the definition table t, the span table u and the page buffer p
+abbrev pub rendering : Texts → List ℕ → List ℕ → List ℕ → Rendering
+rendering T t u p = renderingOf T (definitionTable.wholeRows t) (spanTable.wholeRows u) (length p)
 
--- the value, then "the counts of definitions and spans, from the page writer also the HTML's length"
+-- the value, then "the counts of definitions and spans, from the page writer also the HTML's length", then the text
 abbrev pub numbersOf : Rendering → List ℕ
-numbersOf r = valueOf r ∷ definitionCount r ∷ spanCount r ∷ pageLength r ∷ []
+numbersOf r = valueOf r ∷ definitionCount r ∷ spanCount r ∷ pageLength r ∷ namedOf r ∷ []
 
--- The call returns `number` and leaves s′, t′, u′ and p′ and the four numbers `answer`.
-pub record RenderPromise (s t u p : List ℕ) (number : ℕ) (s′ t′ u′ p′ answer : List ℕ) : Type 0 where
-  pub answered : number ≡ numberOf (rendering s t u p)
-  pub numbers : answer ≡ numbersOf (rendering s t u p)
-  pub definitions : t′ ≡ definitionTableOf s (numberOf (rendering s t u p)) t
-  pub spans : u′ ≡ spanTableOf s (numberOf (rendering s t u p)) u
-  pub page : p′ ≡ pageBufferOf s (rendering s t u p) p
-  pub note : s′ ≡ s
+-- The call returns `number` and leaves T′, t′, u′ and p′ and the five numbers `answer`.
+pub record RenderPromise (T : Texts) (t u p : List ℕ) (number : ℕ) (T′ : Texts) (t′ u′ p′ answer : List ℕ) : Type 0 where
+  pub answered : number ≡ numberOf (rendering T t u p)
+  pub numbers : answer ≡ numbersOf (rendering T t u p)
+  pub definitions : t′ ≡ definitionTableOf T (numberOf (rendering T t u p)) t
+  pub spans : u′ ≡ spanTableOf T (numberOf (rendering T t u p)) u
+  pub page : p′ ≡ pageBufferOf T (rendering T t u p) p
+  pub texts : T′ ≡ T

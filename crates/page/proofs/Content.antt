@@ -11,8 +11,9 @@ use Rattle.marking.specs.Marking.{Kind, escape, code, plain, opens, closes, tai
 use Rattle.marking.specs.Spans.{LinkOf}
 use Rattle.marking.proofs.Roles.{nothing≢trailing, opening≢trailing, closing≢trailing, trailing≢closing}
 use Rattle.marking.proofs.Pairs.{link-pair}
+use Rattle.texts.specs.Texts.{Texts}
 use Rattle.block.specs.Block.{Placed}
-use Rattle.row.specs.declared.Definition.{Definition}
+use Rattle.row.specs.Row.{Listed}
 use Rattle.definition.proofs.NotePlaces.{Inside}
 use Rattle.inline.specs.Tails.{Tail, lengthOf}
 use Rattle.note.specs.Note.{MarkingOf}
@@ -61,12 +62,12 @@ trails-or-not x opens e = others (λ z. opening≢trailing (ap role (sym e) ∙ 
 trails-or-not x closes e = others (λ z. closing≢trailing (ap role (sym e) ∙ z))
 trails-or-not x tail e = trails e
 
-module _ (s : List ℕ) (ds : List Definition) (q : Placed) (m : Marking Tail) (c : MarkingOf s ds q m) (w : Inside s q) (rows : List (List ℕ)) (h : RowsHere s ds q m rows) where
+module _ (T : Texts) (js : List Listed) (q : Placed) (m : Marking Tail) (c : MarkingOf T js q m) (w : Inside (T .note) q) (rows : List (List ℕ)) (h : RowsHere T js q m rows) where
   abbrev rest : ℕ → List ℕ
-  rest a = from s rows (q .bytes) (q .at) a
+  rest a = from T js rows (q .bytes) (q .at) a
 
   abbrev written : Piece → List ℕ
-  written x = pieceText s rows q x
+  written x = pieceText T js rows q x
 
   -- after a piece that closes no link stands no tail
   no-tail-after : (k : ℕ) (x : Piece) → At (m .pieces) k x → ((o : Piece) (t : Tail) → LinkOf m o x t → ⊥) → (y : Piece) → At (m .pieces) (suc k) y → role (y .kind) ≢ trailing
@@ -89,31 +90,31 @@ module _ (s : List ℕ) (ds : List Definition) (q : Placed) (m : Marking Tail) (
 
     after-link : (o : Piece) (t : Tail) → LinkOf m o x t → goesOn (x .end) xs ≡ x .end + lengthOf t
     after-link o t l =
-        let ix : l .to ≡ k = same-index s ds q m c (l .to) x k x (l .close-at) first-at quiet (omega arith) (grows s ds q m c k x first-at quiet) in
+        let ix : l .to ≡ k = same-index T js q m c (l .to) x k x (l .close-at) first-at quiet (omega arith) (grows T js q m c k x first-at quiet) in
         goes-on-past (x .end) xs x (lengthOf t) (second-at ∙ ap (λ (i : ℕ). getElem? (m .pieces) (suc i)) (sym ix) ∙ c .tails (l .from) (l .to) t x (l .linked) (l .close-at))
       where
         quiet : role (x .kind) ≢ trailing
-        quiet z = closing≢trailing (sym (closing-role s ds q m c o x t l) ∙ z)
+        quiet z = closing≢trailing (sym (closing-role T js q m c o x t l) ∙ z)
 
     further : (j : ℕ) → getElem? xs j ≡ getElem? (m .pieces) (suc k + j)
     further j = let z : k + suc j ≡ suc k + j = omega arith in here (suc j) ∙ ap (getElem? (m .pieces)) z
 
     one : (v : List ℕ) → v ≡ rest (goesOn (x .end) xs) → Trails x → written x ++ v ≡ rest (goesOn (x .start) (x ∷ xs))
     one v e (trails z) =
-        let n = after-none (λ o t l. trailing≢closing (ap role (sym z) ∙ closing-role s ds q m c o x t l)) in
+        let n = after-none (λ o t l. trailing≢closing (ap role (sym z) ∙ closing-role T js q m c o x t l)) in
         rw z (e ∙ ap rest n)
-    one v e (others z) = by-step (step s ds q m c w rows h k x first-at z)
+    one v e (others z) = by-step (step T js q m c w rows h k x first-at z)
       where
         start : goesOn (x .start) (x ∷ xs) ≡ x .start
         start = same-place (role (x .kind)) (x .start) (x .end) z
 
-        by-step : Stepped s ds q m c w rows h x → written x ++ v ≡ rest (goesOn (x .start) (x ∷ xs))
+        by-step : Stepped T js q m c w rows h x → written x ++ v ≡ rest (goesOn (x .start) (x ∷ xs))
         by-step (on n g) = ap (λ (y : List ℕ). written x ++ y) (e ∙ ap rest (after-none n)) ∙ sym g ∙ ap rest (sym start)
         by-step (past o t l g) = ap (λ (y : List ℕ). written x ++ y) (e ∙ ap rest (after-link o t l)) ∙ sym g ∙ ap rest (sym start)
 
   in-order : (xs : List Piece) (k a : ℕ) → ((j : ℕ) → getElem? xs j ≡ getElem? (m .pieces) (k + j)) → Tiles a xs (length (q .bytes)) → flatMap written xs ≡ rest (goesOn a xs)
   unfolding flatMap
-  in-order [] k a f t = sym (ap rest t ∙ at-end s rows (q .bytes) (q .at))
+  in-order [] k a f t = sym (ap rest t ∙ at-end T js rows (q .bytes) (q .at))
   in-order (x ∷ xs) k a f t =
       one k x xs f (flatMap written xs) (in-order xs (suc k) (x .end) (further k x xs f) (t .2)) (trails-or-not x (x .kind) refl)
       ∙ ap (λ (i : ℕ). rest (goesOn i (x ∷ xs))) (t .0)
@@ -122,7 +123,7 @@ module _ (s : List ℕ) (ds : List Definition) (q : Placed) (m : Marking Tail) (
   all-there j x e = (j, e)
 
   -- the content of the paragraph by the rows is that of all its pieces
-  content-is : flatMap written (m .pieces) ≡ contentFrom s rows 0 (q .bytes) (q .at)
+  content-is : flatMap written (m .pieces) ≡ contentFrom T js rows 0 (q .bytes) (q .at)
   content-is =
       let z : (j : ℕ) → getElem? (m .pieces) j ≡ getElem? (m .pieces) (0 + j) = λ j. let y : j ≡ 0 + j = omega arith in ap (getElem? (m .pieces)) y in
       in-order (m .pieces) 0 0 z (c .tiled) ∙ at-start
@@ -130,16 +131,16 @@ module _ (s : List ℕ) (ds : List Definition) (q : Placed) (m : Marking Tail) (
       first : (k : ℕ) (x : Piece) → getElem? (m .pieces) 0 ≡ some x → role (x .kind) ≢ trailing
       first k x a e = let f : FollowsLink m 0 = c .no-other-tails 0 x a e in absurd (omega (arith, f .next))
 
-      at-start : rest (goesOn 0 (m .pieces)) ≡ contentFrom s rows 0 (q .bytes) (q .at)
-      at-start = ap rest (goes-on-here 0 (m .pieces) (first 0)) ∙ ap (contentFrom s rows 0 (q .bytes)) (add-zero (q .at))
+      at-start : rest (goesOn 0 (m .pieces)) ≡ contentFrom T js rows 0 (q .bytes) (q .at)
+      at-start = ap rest (goes-on-here 0 (m .pieces) (first 0)) ∙ ap (contentFrom T js rows 0 (q .bytes)) (add-zero (q .at))
 
-  paragraph-by-law : ParagraphIs s ds q m (paragraphPage s rows q)
+  paragraph-by-law : ParagraphIs T js q m (paragraphPage T js rows q)
   unfolding paragraphPage
-  paragraph-by-law = rw (← content-is) (paragraph (texts-are s ds q m c rows h (m .pieces) all-there))
+  paragraph-by-law = rw (← content-is) (paragraph (texts-are T js q m c rows h (m .pieces) all-there))
 
-  paragraph-only : {v : List ℕ} → ParagraphIs s ds q m v → paragraphPage s rows q ≡ v
+  paragraph-only : {v : List ℕ} → ParagraphIs T js q m v → paragraphPage T js rows q ≡ v
   unfolding paragraphPage
-  paragraph-only (paragraph t) = ap (λ (y : List ℕ). paragraphOpen ++ y ++ paragraphClose) (sym content-is ∙ texts-only s ds q m c rows h all-there t)
+  paragraph-only (paragraph t) = ap (λ (y : List ℕ). paragraphOpen ++ y ++ paragraphClose) (sym content-is ∙ texts-only T js q m c rows h all-there t)
 
-  pub paragraph-iff : (v : List ℕ) → (paragraphPage s rows q ≡ v) ↔ ParagraphIs s ds q m v
-  paragraph-iff v = ((λ e. subst (ParagraphIs s ds q m) e paragraph-by-law), paragraph-only)
+  pub paragraph-iff : (v : List ℕ) → (paragraphPage T js rows q ≡ v) ↔ ParagraphIs T js q m v
+  paragraph-iff v = ((λ e. subst (ParagraphIs T js q m) e paragraph-by-law), paragraph-only)

@@ -8,12 +8,12 @@ use lib.ListN.{length}
 use Rattle.marking.specs.Marking.{Marking}
 use Rattle.scan.specs.Member.{In}
 use Rattle.marking.specs.Spans.{Span, codeSpan, linkSpan, SpanOf}
+use Rattle.texts.specs.Texts.{Texts}
 use Rattle.block.specs.Block.{Placed}
-use Rattle.row.specs.declared.Definition.{Definition}
+use Rattle.row.specs.Row.{Listed, definitionsOf}
 use Rattle.row.specs.First.{labelsOf}
 use Rattle.inline.specs.Tails.{Tail}
 use Rattle.inline.specs.Rows.{wholeOf, rowEnd}
-use Rattle.inline.specs.ReadingRows.{spanRow}
 use Rattle.inline.proofs.SpanBounds.{span-within}
 use Rattle.inline.proofs.SpanRows.{row-read}
 use Rattle.note.specs.Note.{MarkingOf, Marked, RowOf}
@@ -23,47 +23,48 @@ use Rattle.note.proofs.Members.{pair-at}
 use Rattle.note.proofs.Rows.{in-rows-iff}
 use Rattle.note.proofs.Spans.{link-read, code-some}
 use Rattle.page.specs.Reading.{isCode, rowStart, textEnd}
+use Rattle.page.proofs.Pieces.{rowIn}
 
-module _ (s : List ℕ) (ds : List Definition) (q : Placed) (m : Marking Tail) (c : MarkingOf s ds q m) where
-  span-some : (x : Span Tail) → SpanOf m x → rowStart (spanRow s (q .at) (q .bytes) ds x) < rowEnd (spanRow s (q .at) (q .bytes) ds x)
-  span-some (codeSpan y) o = omega (arith, code-some (q .bytes) (labelsOf s ds) m c y o)
+module _ (T : Texts) (js : List Listed) (q : Placed) (m : Marking Tail) (c : MarkingOf T js q m) where
+  span-some : (x : Span Tail) → SpanOf m x → rowStart (rowIn T js q x) < rowEnd (rowIn T js q x)
+  span-some (codeSpan y) o = omega (arith, code-some (q .bytes) (labelsOf T js) m c y o)
   span-some (linkSpan a b t) o =
-      let r = link-read (q .bytes) (labelsOf s ds) m c a b t o in
-      let w = span-within (q .bytes) (labelsOf s ds) m c (linkSpan a b t) o in
+      let r = link-read (q .bytes) (labelsOf T js) m c a b t o in
+      let w = span-within (q .bytes) (labelsOf T js) m c (linkSpan a b t) o in
       omega (arith, r .some-bracket, r .one-bracket, w .text-ordered)
 
-  link-ends : (x : Span Tail) → SpanOf m x → isCode (spanRow s (q .at) (q .bytes) ds x) ≡ false
-      → (rowStart (spanRow s (q .at) (q .bytes) ds x) < textEnd (spanRow s (q .at) (q .bytes) ds x)) × (textEnd (spanRow s (q .at) (q .bytes) ds x) < rowEnd (spanRow s (q .at) (q .bytes) ds x))
+  link-ends : (x : Span Tail) → SpanOf m x → isCode (rowIn T js q x) ≡ false
+      → (rowStart (rowIn T js q x) < textEnd (rowIn T js q x)) × (textEnd (rowIn T js q x) < rowEnd (rowIn T js q x))
   link-ends (codeSpan y) o e = absurd (true≢false e)
   link-ends (linkSpan a b t) o e =
-      let r = link-read (q .bytes) (labelsOf s ds) m c a b t o in
-      let w = span-within (q .bytes) (labelsOf s ds) m c (linkSpan a b t) o in
+      let r = link-read (q .bytes) (labelsOf T js) m c a b t o in
+      let w = span-within (q .bytes) (labelsOf T js) m c (linkSpan a b t) o in
       (omega (arith, r .some-bracket, w .text-ordered), omega (arith, r .one-bracket))
 
-module _ (s : List ℕ) (n : Marked s) where
+module _ (T : Texts) (n : Marked T) where
   -- the row of a span as it is read
-  pub read : (row : List ℕ) (r : RowOf s (n .definitions) (n .paragraphs) (n .markings) row) → spanRow s (r .paragraph .at) (r .paragraph .bytes) (n .definitions) (r .span) ≡ row
-  read row r = row-read s (r .paragraph .at) (r .paragraph .bytes) (n .definitions) (r .row-is)
+  pub read : (row : List ℕ) (r : RowOf (T .note) (definitionsOf (n .list)) (n .paragraphs) (n .markings) row) → rowIn T (n .list) (r .paragraph) (r .span) ≡ row
+  read row r = row-read (T .note) (r .paragraph .at) (r .paragraph .bytes) (definitionsOf (n .list)) (r .row-is)
 
-  pub row-reaches : (row : List ℕ) (r : RowOf s (n .definitions) (n .paragraphs) (n .markings) row)
+  pub row-reaches : (row : List ℕ) (r : RowOf (T .note) (definitionsOf (n .list)) (n .paragraphs) (n .markings) row)
       → (r .paragraph .at ≤ rowStart row) × (rowStart row ≤ rowEnd row) × (rowEnd row ≤ r .paragraph .at + length (r .paragraph .bytes))
   row-reaches row r =
       let c = pair-at (n .each) (r .index) (r .paragraph) (r .marking) (r .paragraph-at) (r .marking-at) in
-      let w = span-within (r .paragraph .bytes) (labelsOf s (n .definitions)) (r .marking) c (r .span) (r .of-marking) in
+      let w = span-within (r .paragraph .bytes) (labelsOf T (n .list)) (r .marking) c (r .span) (r .of-marking) in
       let st : r .paragraph .at + wholeOf (r .span) .start ≡ rowStart row = ap rowStart (read row r) in
       let en : r .paragraph .at + wholeOf (r .span) .end ≡ rowEnd row = ap rowEnd (read row r) in
       (omega arith, omega (arith, w .text-from, w .text-ordered, w .text-to), omega (arith, w .to))
 
-module _ (s : List ℕ) where
-  pub row-some : (row : List ℕ) → In row (spanRows s) → rowStart row < rowEnd row
+module _ (T : Texts) where
+  pub row-some : (row : List ℕ) → In row (spanRows T) → rowStart row < rowEnd row
   row-some row i =
-      let r = in-rows-iff s (marked s) row .0 i in
-      let c = pair-at (marked s .each) (r .index) (r .paragraph) (r .marking) (r .paragraph-at) (r .marking-at) in
-      subst (λ (x : List ℕ). rowStart x < rowEnd x) (read s (marked s) row r) (span-some s (marked s .definitions) (r .paragraph) (r .marking) c (r .span) (r .of-marking))
+      let r = in-rows-iff T (marked T) row .0 i in
+      let c = pair-at (marked T .each) (r .index) (r .paragraph) (r .marking) (r .paragraph-at) (r .marking-at) in
+      subst (λ (x : List ℕ). rowStart x < rowEnd x) (read T (marked T) row r) (span-some T (marked T .list) (r .paragraph) (r .marking) c (r .span) (r .of-marking))
 
-  pub link-text : (row : List ℕ) → In row (spanRows s) → isCode row ≡ false → (rowStart row < textEnd row) × (textEnd row < rowEnd row)
+  pub link-text : (row : List ℕ) → In row (spanRows T) → isCode row ≡ false → (rowStart row < textEnd row) × (textEnd row < rowEnd row)
   link-text row i e =
-      let r = in-rows-iff s (marked s) row .0 i in
-      let c = pair-at (marked s .each) (r .index) (r .paragraph) (r .marking) (r .paragraph-at) (r .marking-at) in
-      subst (λ (x : List ℕ). (rowStart x < textEnd x) × (textEnd x < rowEnd x)) (read s (marked s) row r)
-      (link-ends s (marked s .definitions) (r .paragraph) (r .marking) c (r .span) (r .of-marking) (ap isCode (read s (marked s) row r) ∙ e))
+      let r = in-rows-iff T (marked T) row .0 i in
+      let c = pair-at (marked T .each) (r .index) (r .paragraph) (r .marking) (r .paragraph-at) (r .marking-at) in
+      subst (λ (x : List ℕ). (rowStart x < textEnd x) × (textEnd x < rowEnd x)) (read T (marked T) row r)
+      (link-ends T (marked T .list) (r .paragraph) (r .marking) c (r .span) (r .of-marking) (ap isCode (read T (marked T) row r) ∙ e))

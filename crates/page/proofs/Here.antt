@@ -7,19 +7,20 @@ use mathlib.Core.List.{List}
 use lib.ListN.{length, getElem?}
 use Rattle.marking.specs.Marking.{Marking}
 use Rattle.marking.specs.Spans.{SpanOf}
+use Rattle.texts.specs.Texts.{Texts}
 use Rattle.block.specs.Block.{Placed}
+use Rattle.row.specs.Row.{definitionsOf}
 use Rattle.row.specs.First.{labelsOf}
-use Rattle.definition.proofs.Notes.{note-iff}
 use Rattle.definition.proofs.NotePlaces.{Ordered, done, next, paragraphs-in-order}
+use Rattle.joined.proofs.Joined.{joined-one}
 use Rattle.inline.specs.Tails.{Tail}
-use Rattle.inline.specs.ReadingRows.{spanRow}
 use Rattle.inline.proofs.SpanRows.{row-iff}
 use Rattle.note.specs.Note.{MarkingOf, Marked, RowOf}
 use Rattle.note.specs.Reading.{spanRows}
 use Rattle.note.proofs.Members.{pair-at}
 use Rattle.note.proofs.Rows.{in-rows-iff}
 use Rattle.page.proofs.Extent.{read, row-some, link-text, row-reaches}
-use Rattle.page.proofs.Pieces.{RowHere, RowsHere}
+use Rattle.page.proofs.Pieces.{rowIn, RowHere, RowsHere}
 
 pub starts-after : {s : List ℕ} {from : ℕ} {ps : List Placed} → Ordered s from ps → (k : ℕ) (q : Placed) → getElem? ps k ≡ some q → from ≤ q .at
 starts-after done k q e = absurd (Option·none-ne-some q e)
@@ -41,30 +42,30 @@ same-paragraph (next {p = p} w i o) (suc j) zero a b e d x y h l z =
     absurd (omega arith)
 same-paragraph (next w i o) (suc j) (suc k) a b e d x y h l z = ap suc (same-paragraph o j k a b e d x y h l z)
 
-module _ (s : List ℕ) (n : Marked s) where
-  pub in-order : Ordered s 0 (n .paragraphs)
-  in-order = let (d, p) = note-iff s (n .definitions) (n .paragraphs) .1 (n .note) in subst (Ordered s 0) p (paragraphs-in-order s)
+module _ (T : Texts) (n : Marked T) where
+  pub in-order : Ordered (T .note) 0 (n .paragraphs)
+  in-order = subst (Ordered (T .note) 0) (joined-one T (n .joined) .1) (paragraphs-in-order (T .note))
 
-  pub marking-of : (k : ℕ) (q : Placed) (m : Marking Tail) → getElem? (n .paragraphs) k ≡ some q → getElem? (n .markings) k ≡ some m → MarkingOf s (n .definitions) q m
+  pub marking-of : (k : ℕ) (q : Placed) (m : Marking Tail) → getElem? (n .paragraphs) k ≡ some q → getElem? (n .markings) k ≡ some m → MarkingOf T (n .list) q m
   marking-of k q m e d = pair-at (n .each) k q m e d
 
   module _ (k : ℕ) (q : Placed) (m : Marking Tail) (e : getElem? (n .paragraphs) k ≡ some q) (d : getElem? (n .markings) k ≡ some m) where
     -- a row whose paragraph has the index k
-    pub row-of : (row : List ℕ) (r : RowOf s (n .definitions) (n .paragraphs) (n .markings) row) → r .index ≡ k → RowHere s (n .definitions) q m row
+    pub row-of : (row : List ℕ) (r : RowOf (T .note) (definitionsOf (n .list)) (n .paragraphs) (n .markings) row) → r .index ≡ k → RowHere T (n .list) q m row
     row-of row r z =
         let a : r .paragraph ≡ q = Option·some-injective (r .paragraph) q (sym (r .paragraph-at) ∙ ap (getElem? (n .paragraphs)) z ∙ e) in
         let b : r .marking ≡ m = Option·some-injective (r .marking) m (sym (r .marking-at) ∙ ap (getElem? (n .markings)) z ∙ d) in
         record {
           span = r .span;
           of-marking = subst (λ (y : Marking Tail). SpanOf y (r .span)) b (r .of-marking);
-          row-is = ap (λ (y : Placed). spanRow s (y .at) (y .bytes) (n .definitions) (r .span)) (sym a) ∙ read s n row r;
+          row-is = ap (λ (y : Placed). rowIn T (n .list) y (r .span)) (sym a) ∙ read T n row r;
         }
 
-    pub rows-here : RowsHere s (n .definitions) q m (spanRows s)
+    pub rows-here : RowsHere T (n .list) q m (spanRows T)
     rows-here =
         record {
           each = λ x o.
-              in-rows-iff s n (spanRow s (q .at) (q .bytes) (n .definitions) x) .1
+              in-rows-iff T n (rowIn T (n .list) q x) .1
               (record {
                 index = k;
                 paragraph = q;
@@ -73,12 +74,12 @@ module _ (s : List ℕ) (n : Marked s) where
                 marking-at = d;
                 span = x;
                 of-marking = o;
-                row-is = row-iff (q .bytes) (labelsOf s (n .definitions)) m (marking-of k q m e d) s (q .at) (n .definitions) x o _ .1 refl;
+                row-is = row-iff (q .bytes) (labelsOf T (n .list)) m (marking-of k q m e d) (T .note) (q .at) (definitionsOf (n .list)) x o _ .1 refl;
               });
           covering = λ row h i l lo hi.
-              let r = in-rows-iff s n row .0 h in
-              let (a, b, c) = row-reaches s n row r in
+              let r = in-rows-iff T n row .0 h in
+              let (a, b, c) = row-reaches T n row r in
               row-of row r (same-paragraph in-order (r .index) k (r .paragraph) q (r .paragraph-at) e (q .at + i - r .paragraph .at) i (omega arith) l (omega arith));
-          not-empty = row-some s;
-          text-ends = link-text s;
+          not-empty = row-some T;
+          text-ends = link-text T;
         }

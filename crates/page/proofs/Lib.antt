@@ -1,9 +1,9 @@
 -- the reading over a paragraph's bytes
 pub mod Found
 pub mod Turns
--- how far rows reach, and those that stand in a paragraph
-pub mod Extent
+-- the rows at the pieces of a paragraph, how far rows reach, and those that stand in a paragraph
 pub mod Pieces
+pub mod Extent
 pub mod Here
 pub mod Apart
 pub mod Parts

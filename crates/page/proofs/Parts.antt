@@ -1,31 +1,35 @@
 -- A row's destination and title are in order: neither ends before it starts.
 use Prim.Native.Nat.{ℕ, zero, suc, _+_, _≤_, _<_}
 use native.Mathlib.Omega.{arith}
-use mathlib.Core.Path.{subst}
+use mathlib.Core.Path.{sym, subst}
 use mathlib.Core.Option.{Option, none, some}
 use mathlib.Core.List.{List, [], _∷_, List·Memᴰ, List·Memᴰ·head, List·Memᴰ·tail, List·Memᴰ·append-cases, List·Memᴰ·not-nil}
 use mathlib.Core.Logic.{inl, inr, ⊎-elim}
-use lib.ListN.{length, getD, length-map}
+use lib.ListN.{length, length-map}
 use Rattle.marking.specs.Marking.{Marking}
 use Rattle.scan.specs.Member.{In}
 use Rattle.marking.specs.Spans.{Span, codeSpan, linkSpan, SpanOf}
+use Rattle.texts.specs.Texts.{Texts, textOf}
 use Rattle.block.specs.Block.{Placed}
 use Rattle.row.specs.declared.Range.{Range}
 use Rattle.row.specs.declared.Definition.{Definition}
-use Rattle.row.specs.Row.{absent, definition}
+use Rattle.row.specs.Row.{Listed, definitionsOf}
 use Rattle.row.specs.First.{bytesOf, labelsOf}
-use Rattle.definition.specs.Reading.{definitionAt, takingFrom, definitionsFrom, upToEnd, definitionsOf, definitionsIn, definitions}
+use Rattle.definition.specs.Reading.{definitionAt, takingFrom, definitionsFrom, upToEnd, definitionsIn, definitions}
+use Rattle.definition.specs.Reading as reading
 use Rattle.definition.proofs.Endings.{TitlePlace}
 use Rattle.definition.proofs.Places.{definition-places}
 use Rattle.definition.proofs.Takings.{by-entry, from-none, from-one}
+use Rattle.joined.specs.Reading.{joined}
+use Rattle.joined.proofs.Places.{entry-at}
 use Rattle.inline.specs.Tails.{Tail, inline, full, collapsed, shortcut}
 use Rattle.inline.specs.Rows.{Target, defined, targetOf, fromNote?}
 use Rattle.inline.specs.Claims.{PartBetween}
 use Rattle.inline.proofs.SpanBounds.{inline-parts-within, number-defined}
 use Rattle.note.specs.Note.{MarkingOf}
 use Rattle.note.specs.Reading.{spanRows}
-use Rattle.note.proofs.Members.{at-member}
-use Rattle.note.proofs.Placing.{from-span, at-getD}
+use Rattle.note.proofs.Named.{defined-at}
+use Rattle.note.proofs.Placing.{from-span}
 use Rattle.page.specs.Reading.{destination, title}
 
 abbrev InOrder : Range → Type 0
@@ -60,7 +64,7 @@ taken-in-order s (suc k) at =
     (each-cons c (takingFrom k s n .definitions) (record { destination = p .destination; title = title-ordered (p .title) }) (taken-in-order s k n)))
 
 read-in-order : (s : List ℕ) (bs : List Placed) → Each (definitionsIn s bs)
-unfolding definitionsIn definitionsOf definitionsFrom
+unfolding definitionsIn reading.definitionsOf definitionsFrom
 read-in-order s [] d m = absurd (List·Memᴰ·not-nil m)
 read-in-order s (b ∷ bs) d m =
     ⊎-elim (λ x. taken-in-order (upToEnd s b) (length (upToEnd s b)) (b .at) d x) (λ y. read-in-order s bs d y)
@@ -75,33 +79,31 @@ part-in-order : (offset lo hi : ℕ) (r : Option Range) → PartBetween lo hi r 
 part-in-order offset lo hi none p = omega arith
 part-in-order offset lo hi (some r) p = omega (arith, p .1)
 
-module _ (s : List ℕ) where
+module _ (T : Texts) where
   abbrev TargetInOrder : Target → Type 0
   TargetInOrder t = BothInOrder (t .destination) (t .title)
 
-  defined-in-order : (k : ℕ) → k + 1 ≤ length (labelsOf s (definitions s)) → TargetInOrder (defined (definitions s) k)
+  defined-in-order : (k : ℕ) → k + 1 ≤ length (labelsOf T (joined T)) → TargetInOrder (defined (definitionsOf (joined T)) k)
   defined-in-order k f =
-      let ds = definitions s in
-      let h : k < length ds = omega (arith, length-map ds (λ (d : Definition). bytesOf s (d .label))) in
-      let x : Definition = getD ds k (definition absent absent absent) in
-      definitions-in-order s x (at-member ds k x (at-getD ds k (definition absent absent absent) h))
+      let h : k < length (joined T) = omega (arith, length-map (joined T) (λ (j : Listed). bytesOf (textOf T (j .text)) (j .definition .label))) in
+      subst TargetInOrder (sym (defined-at (joined T) k)) (entry-at T (λ s d. BothInOrder (d .destination) (d .title)) definitions-in-order k h)
 
-  module _ (q : Placed) (m : Marking Tail) (c : MarkingOf s (definitions s) q m) where
-    abbrev numbered : (x : Span Tail) → SpanOf m x → targetOf (q .at) (definitions s) x .number ≤ length (labelsOf s (definitions s))
-    numbered = number-defined (q .bytes) (labelsOf s (definitions s)) m c (q .at) (definitions s)
+  module _ (q : Placed) (m : Marking Tail) (c : MarkingOf T (joined T) q m) where
+    abbrev numbered : (x : Span Tail) → SpanOf m x → targetOf (q .at) (definitionsOf (joined T)) x .number ≤ length (labelsOf T (joined T))
+    numbered = number-defined (q .bytes) (labelsOf T (joined T)) m c (q .at) (definitionsOf (joined T))
 
-    target-in-order : (x : Span Tail) → SpanOf m x → TargetInOrder (targetOf (q .at) (definitions s) x)
+    target-in-order : (x : Span Tail) → SpanOf m x → TargetInOrder (targetOf (q .at) (definitionsOf (joined T)) x)
     target-in-order (codeSpan p) y = record { destination = omega arith; title = omega arith }
     target-in-order (linkSpan o d (inline n a b)) y =
-        let (l, t) = inline-parts-within (q .bytes) (labelsOf s (definitions s)) m c o d n a b y in
+        let (l, t) = inline-parts-within (q .bytes) (labelsOf T (joined T)) m c o d n a b y in
         record { destination = part-in-order (q .at) (d .end) (d .end + n) a l; title = part-in-order (q .at) (d .end) (d .end + n) b t }
     target-in-order (linkSpan o d (full n k)) y = defined-in-order k (numbered (linkSpan o d (full n k)) y)
     target-in-order (linkSpan o d (collapsed k)) y = defined-in-order k (numbered (linkSpan o d (collapsed k)) y)
     target-in-order (linkSpan o d (shortcut k)) y = defined-in-order k (numbered (linkSpan o d (shortcut k)) y)
 
   -- neither the destination nor the title of a row ends before it starts
-  pub parts-in-order : (row : List ℕ) → In row (spanRows s) → InOrder (destination row) × InOrder (title row)
+  pub parts-in-order : (row : List ℕ) → In row (spanRows T) → InOrder (destination row) × InOrder (title row)
   parts-in-order row i =
-      let f = from-span s row i in
+      let f = from-span T row i in
       let b = target-in-order (f .paragraph) (f .marking) (f .meets) (f .span) (f .of-marking) in
       subst (λ (r : List ℕ). InOrder (destination r) × InOrder (title r)) (f .row-is) (b .destination, b .title)

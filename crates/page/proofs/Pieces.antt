@@ -16,8 +16,9 @@ use Rattle.marking.specs.Spans.{Span, codeSpan, linkSpan, SpanOf, CodeOf, LinkO
 use Rattle.marking.proofs.Tiles.{tiles-order}
 use Rattle.marking.proofs.Pairs.{link-pair}
 use Rattle.marking.proofs.Roles.{nothing≢trailing, opening≢trailing, closing≢trailing}
+use Rattle.texts.specs.Texts.{Texts}
 use Rattle.block.specs.Block.{Placed}
-use Rattle.row.specs.declared.Definition.{Definition}
+use Rattle.row.specs.Row.{Listed, definitionsOf}
 use Rattle.row.specs.First.{labelsOf}
 use Rattle.inline.proofs.PieceBounds.{sized}
 use Rattle.inline.specs.Tails.{Tail, inline, full, collapsed, shortcut}
@@ -29,24 +30,28 @@ use Rattle.note.specs.Note.{MarkingOf}
 use Rattle.page.specs.Reading.{isCode, rowStart, textEnd, firstRow, codeStarts, linkStarts, linkCloses}
 use Rattle.page.proofs.Found.{found-in, not-found}
 
--- the row is that of a span in the marking m of the paragraph q of the note s
-pub record RowHere (s : List ℕ) (ds : List Definition) (q : Placed) (m : Marking Tail) (row : List ℕ) : Type 0 where
+-- the row of a span of the paragraph q of the note, where js is the joined list of the texts T
+abbrev pub rowIn : Texts → List Listed → Placed → Span Tail → List ℕ
+rowIn T js q = spanRow (T .note) (q .at) (q .bytes) (definitionsOf js)
+
+-- the row is that of a span in the marking m of the paragraph q
+pub record RowHere (T : Texts) (js : List Listed) (q : Placed) (m : Marking Tail) (row : List ℕ) : Type 0 where
   pub span : Span Tail
   pub of-marking : SpanOf m span
-  pub row-is : spanRow s (q .at) (q .bytes) ds span ≡ row
+  pub row-is : rowIn T js q span ≡ row
 
 -- what the rows are to one paragraph: those of its spans are there, and no other reaches into it; none is empty, and a link's text ends within it
-pub record RowsHere (s : List ℕ) (ds : List Definition) (q : Placed) (m : Marking Tail) (rows : List (List ℕ)) : Type 0 where
-  pub each : (x : Span Tail) → SpanOf m x → In (spanRow s (q .at) (q .bytes) ds x) rows
-  pub covering : (row : List ℕ) → In row rows → (i : ℕ) → i < length (q .bytes) → rowStart row ≤ q .at + i → q .at + i < rowEnd row → RowHere s ds q m row
+pub record RowsHere (T : Texts) (js : List Listed) (q : Placed) (m : Marking Tail) (rows : List (List ℕ)) : Type 0 where
+  pub each : (x : Span Tail) → SpanOf m x → In (rowIn T js q x) rows
+  pub covering : (row : List ℕ) → In row rows → (i : ℕ) → i < length (q .bytes) → rowStart row ≤ q .at + i → q .at + i < rowEnd row → RowHere T js q m row
   pub not-empty : (row : List ℕ) → In row rows → rowStart row < rowEnd row
   pub text-ends : (row : List ℕ) → In row rows → isCode row ≡ false → (rowStart row < textEnd row) × (textEnd row < rowEnd row)
 
-pub link-is-no-code : (s : List ℕ) (at : ℕ) (p : List ℕ) (ds : List Definition) (o c : Piece) (t : Tail) → isCode (spanRow s at p ds (linkSpan o c t)) ≡ false
-link-is-no-code s at p ds o c (inline n d t) = refl
-link-is-no-code s at p ds o c (full n k) = refl
-link-is-no-code s at p ds o c (collapsed k) = refl
-link-is-no-code s at p ds o c (shortcut k) = refl
+pub link-is-no-code : (T : Texts) (js : List Listed) (q : Placed) (o c : Piece) (t : Tail) → isCode (rowIn T js q (linkSpan o c t)) ≡ false
+link-is-no-code T js q o c (inline n d t) = refl
+link-is-no-code T js q o c (full n k) = refl
+link-is-no-code T js q o c (collapsed k) = refl
+link-is-no-code T js q o c (shortcut k) = refl
 
 pub opens-kind : (k : Kind) → role k ≡ opening → k ≡ opens
 opens-kind opens e = refl
@@ -64,7 +69,7 @@ closes-kind plain e = let z : _≡_ {A = ℕ} 0 1 = cc in absurd (omega arith)
 closes-kind opens e = let z : _≡_ {A = ℕ} 0 1 = cc in absurd (omega arith)
 closes-kind tail e = let z : _≡_ {A = ℕ} 0 1 = cc in absurd (omega arith)
 
-module _ (s : List ℕ) (ds : List Definition) (q : Placed) (m : Marking Tail) (c : MarkingOf s ds q m) where
+module _ (T : Texts) (js : List Listed) (q : Placed) (m : Marking Tail) (c : MarkingOf T js q m) where
   abbrev ps : List Piece
   ps = m .pieces
 
@@ -111,31 +116,31 @@ module _ (s : List ℕ) (ds : List Definition) (q : Placed) (m : Marking Tail) (
     pub closer : Piece
     pub with-tail : Tail
     pub link : LinkOf m opener closer with-tail
-    pub row-is : spanRow s (q .at) (q .bytes) ds (linkSpan opener closer with-tail) ≡ r
+    pub row-is : rowIn T js q (linkSpan opener closer with-tail) ≡ r
 
   pub record CodeRow (r : List ℕ) : Type 0 where
     pub piece : Piece
     pub code-of : CodeOf m piece
-    pub row-is : spanRow s (q .at) (q .bytes) ds (codeSpan piece) ≡ r
+    pub row-is : rowIn T js q (codeSpan piece) ≡ r
 
-  pub code-row : (r : List ℕ) → RowHere s ds q m r → isCode r ≡ true → CodeRow r
+  pub code-row : (r : List ℕ) → RowHere T js q m r → isCode r ≡ true → CodeRow r
   code-row r h e = cases (h .span) (h .of-marking) (h .row-is)
     where
-      cases : (x : Span Tail) → SpanOf m x → spanRow s (q .at) (q .bytes) ds x ≡ r → CodeRow r
+      cases : (x : Span Tail) → SpanOf m x → rowIn T js q x ≡ r → CodeRow r
       cases (codeSpan y) o k = record { piece = y; code-of = o; row-is = k }
-      cases (linkSpan a b t) o k = absurd (true≢false (sym e ∙ ap isCode (sym k) ∙ link-is-no-code s (q .at) (q .bytes) ds a b t))
+      cases (linkSpan a b t) o k = absurd (true≢false (sym e ∙ ap isCode (sym k) ∙ link-is-no-code T js q a b t))
 
-  pub link-row : (r : List ℕ) → RowHere s ds q m r → isCode r ≡ false → LinkRow r
+  pub link-row : (r : List ℕ) → RowHere T js q m r → isCode r ≡ false → LinkRow r
   link-row r h e = cases (h .span) (h .of-marking) (h .row-is)
     where
-      cases : (x : Span Tail) → SpanOf m x → spanRow s (q .at) (q .bytes) ds x ≡ r → LinkRow r
+      cases : (x : Span Tail) → SpanOf m x → rowIn T js q x ≡ r → LinkRow r
       cases (codeSpan y) o k = absurd (true≢false (ap isCode k ∙ e))
       cases (linkSpan a b t) o k = record { opener = a; closer = b; with-tail = t; link = o; row-is = k }
 
-  module _ (rows : List (List ℕ)) (h : RowsHere s ds q m rows) where
+  module _ (rows : List (List ℕ)) (h : RowsHere T js q m rows) where
     -- ---- the row that is found at a place i within the piece x is that of x
     module _ (k : ℕ) (x : Piece) (a : At ps k x) (i : ℕ) (lo : x .start ≤ i) (hi : i < x .end) (in-p : i < length (q .bytes)) (r : List ℕ) where
-      pub code-at : firstRow (codeStarts (q .at + i)) rows ≡ some r → (x .kind ≡ code) × (spanRow s (q .at) (q .bytes) ds (codeSpan x) ≡ r)
+      pub code-at : firstRow (codeStarts (q .at + i)) rows ≡ some r → (x .kind ≡ code) × (rowIn T js q (codeSpan x) ≡ r)
       code-at e =
           let (j, t) = found-in (codeStarts (q .at + i)) rows r e in
           let st : rowStart r ≡ q .at + i = eqb-true (rowStart r) (q .at + i) (and-right (isCode r) _ t) in
@@ -144,14 +149,14 @@ module _ (s : List ℕ) (ds : List Definition) (q : Placed) (m : Marking Tail) (
           let quiet : role (y .piece .kind) ≢ trailing = λ z. nothing≢trailing (ap role (sym (y .code-of .is-code)) ∙ z) in
           let ix : k ≡ y .code-of .index = same-index k x (y .code-of .index) (y .piece) a (y .code-of .at) quiet (omega arith) (omega arith) in
           let same : x ≡ y .piece = same-piece k x (y .code-of .index) (y .piece) a (y .code-of .at) ix in
-          (ap (λ (z : Piece). z .kind) same ∙ y .code-of .is-code, ap (λ (z : Piece). spanRow s (q .at) (q .bytes) ds (codeSpan z)) same ∙ y .row-is)
+          (ap (λ (z : Piece). z .kind) same ∙ y .code-of .is-code, ap (λ (z : Piece). rowIn T js q (codeSpan z)) same ∙ y .row-is)
 
       -- a link whose opening piece is x
       pub record OpensHere : Type 0 where
         pub closer : Piece
         pub with-tail : Tail
         pub link : LinkOf m x closer with-tail
-        pub row-is : spanRow s (q .at) (q .bytes) ds (linkSpan x closer with-tail) ≡ r
+        pub row-is : rowIn T js q (linkSpan x closer with-tail) ≡ r
 
       pub open-at : firstRow (linkStarts (q .at + i)) rows ≡ some r → OpensHere
       open-at e =
@@ -166,7 +171,7 @@ module _ (s : List ℕ) (ds : List Definition) (q : Placed) (m : Marking Tail) (
             closer = y .closer;
             with-tail = y .with-tail;
             link = subst (λ (z : Piece). LinkOf m z (y .closer) (y .with-tail)) same (y .link);
-            row-is = ap (λ (z : Piece). spanRow s (q .at) (q .bytes) ds (linkSpan z (y .closer) (y .with-tail))) (sym same) ∙ y .row-is;
+            row-is = ap (λ (z : Piece). rowIn T js q (linkSpan z (y .closer) (y .with-tail))) (sym same) ∙ y .row-is;
           }
 
       -- a link whose closing piece is x
@@ -174,7 +179,7 @@ module _ (s : List ℕ) (ds : List Definition) (q : Placed) (m : Marking Tail) (
         pub opener : Piece
         pub with-tail : Tail
         pub link : LinkOf m opener x with-tail
-        pub row-is : spanRow s (q .at) (q .bytes) ds (linkSpan opener x with-tail) ≡ r
+        pub row-is : rowIn T js q (linkSpan opener x with-tail) ≡ r
 
       pub close-at : firstRow (linkCloses (q .at + i)) rows ≡ some r → ClosesHere
       close-at e =
@@ -191,23 +196,23 @@ module _ (s : List ℕ) (ds : List Definition) (q : Placed) (m : Marking Tail) (
             opener = y .opener;
             with-tail = y .with-tail;
             link = subst (λ (z : Piece). LinkOf m (y .opener) z (y .with-tail)) same (y .link);
-            row-is = ap (λ (z : Piece). spanRow s (q .at) (q .bytes) ds (linkSpan (y .opener) z (y .with-tail))) (sym same) ∙ y .row-is;
+            row-is = ap (λ (z : Piece). rowIn T js q (linkSpan (y .opener) z (y .with-tail))) (sym same) ∙ y .row-is;
           }
 
     -- ---- the row of a span is found
     pub code-found : (x : Piece) → CodeOf m x → firstRow (codeStarts (q .at + x .start)) rows ≡ none → ⊥
     code-found x o e =
-        not-found (codeStarts (q .at + x .start)) rows e (spanRow s (q .at) (q .bytes) ds (codeSpan x)) (h .each (codeSpan x) o) (eq-eqb (q .at + x .start) (q .at + x .start) refl)
+        not-found (codeStarts (q .at + x .start)) rows e (rowIn T js q (codeSpan x)) (h .each (codeSpan x) o) (eq-eqb (q .at + x .start) (q .at + x .start) refl)
 
     pub open-found : (o d : Piece) (t : Tail) → LinkOf m o d t → firstRow (linkStarts (q .at + o .start)) rows ≡ none → ⊥
     open-found o d t l e =
-        not-found (linkStarts (q .at + o .start)) rows e (spanRow s (q .at) (q .bytes) ds (linkSpan o d t)) (h .each (linkSpan o d t) l)
-        (rw (link-is-no-code s (q .at) (q .bytes) ds o d t) (eq-eqb (q .at + o .start) (q .at + o .start) refl))
+        not-found (linkStarts (q .at + o .start)) rows e (rowIn T js q (linkSpan o d t)) (h .each (linkSpan o d t) l)
+        (rw (link-is-no-code T js q o d t) (eq-eqb (q .at + o .start) (q .at + o .start) refl))
 
     pub close-found : (o d : Piece) (t : Tail) → LinkOf m o d t → firstRow (linkCloses (q .at + d .start)) rows ≡ none → ⊥
     close-found o d t l e =
-        not-found (linkCloses (q .at + d .start)) rows e (spanRow s (q .at) (q .bytes) ds (linkSpan o d t)) (h .each (linkSpan o d t) l)
-        (rw (link-is-no-code s (q .at) (q .bytes) ds o d t) (eq-eqb (q .at + d .start) (q .at + d .start) refl))
+        not-found (linkCloses (q .at + d .start)) rows e (rowIn T js q (linkSpan o d t)) (h .each (linkSpan o d t) l)
+        (rw (link-is-no-code T js q o d t) (eq-eqb (q .at + d .start) (q .at + d .start) refl))
 
   -- ---- a piece opens one link at most
   pub one-link : (x d e : Piece) (t u : Tail) → x .start < x .end → LinkOf m x d t → LinkOf m x e u → linkSpan x d t ≡ linkSpan x e u
@@ -217,7 +222,7 @@ module _ (s : List ℕ) (ds : List Definition) (q : Placed) (m : Marking Tail) (
       let p1 : m .pairs (l .from) (l .to) ≡ true = c .links-are (l .from) (l .to) t .0 (l .linked) .paired in
       let p2 : m .pairs (k .from) (k .to) ≡ true = c .links-are (k .from) (k .to) u .0 (k .linked) .paired in
       let iy : l .to ≡ k .to =
-      every-bracket-in-one-pair-at-most (q .bytes) (labelsOf s ds) m c .for-opening (l .from) (l .to) (k .to) p1 (ap (λ (i : ℕ). m .pairs i (k .to)) ix ∙ p2) in
+      every-bracket-in-one-pair-at-most (q .bytes) (labelsOf T js) m c .for-opening (l .from) (l .to) (k .to) p1 (ap (λ (i : ℕ). m .pairs i (k .to)) ix ∙ p2) in
       let same : d ≡ e = same-piece (l .to) d (k .to) e (l .close-at) (k .close-at) iy in
       let tails : t ≡ u = Option·some-injective t u (sym (l .linked) ∙ ap (λ (i : ℕ). m .links i (l .to)) ix ∙ ap (m .links (k .from)) iy ∙ k .linked) in
       ap (λ (z : Piece). linkSpan x z t) same ∙ ap (linkSpan x e) tails

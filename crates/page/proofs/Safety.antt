@@ -1,13 +1,16 @@
--- Whatever the note and the rows, what is written is tags and what cannot be taken for markup.
+-- Whatever the texts and the rows, what is written is tags and what cannot be taken for markup.
 use Prim.Native.Nat.{ℕ, zero, suc, _+_, _-_}
 use mathlib.Core.Path.{_≡_, ap, _∙_, subst}
 use mathlib.Core.Option.{Option, none, some}
 use mathlib.Core.List.{List, [], _∷_, _++_, flatMap, append-assoc, append-nil}
 use lib.ListN.{getD}
 use Rattle.scan.specs.Ascii.{ascii}
+use Rattle.texts.specs.Texts.{Texts}
 use Rattle.block.specs.Block.{Placed}
+use Rattle.row.specs.Row.{Listed}
 use Rattle.row.specs.First.{bytesOf}
 use Rattle.definition.specs.Reading.{paragraphs}
+use Rattle.joined.specs.Reading.{joined}
 use Rattle.note.specs.Reading.{spanRows}
 use Rattle.escaping.specs.Escaping.{escaped}
 use Rattle.escaping.specs.Reading.{undone, backslash, textOf}
@@ -19,7 +22,7 @@ use Rattle.escaping.proofs.Safety.{text-clean}
 use Rattle.href.proofs.Safety.{href-clean}
 use Rattle.code.proofs.Safety.{code-clean}
 use Rattle.page.specs.Page.{PageIs}
-use Rattle.page.specs.Reading.{text, destination, title, writtenBy, writtenAt, firstRow, codeStarts, linkStarts, linkCloses, contentFrom, paragraphPage, pageBy, pageOf}
+use Rattle.page.specs.Reading.{text, destination, title, targetText, writtenBy, writtenAt, firstRow, codeStarts, linkStarts, linkCloses, contentFrom, paragraphPage, pageBy, pageOf}
 use Rattle.page.specs.Claims.{Tag, paragraph-open, paragraph-close, code-open, code-close, link-open, link-open-titled, link-close, Tagged, tag, clean}
 use Rattle.page.specs.Claims as claims
 use Rattle.page.proofs.Page.{page-iff}
@@ -59,31 +62,31 @@ unfolding linkOpen titleAttribute
 open-tagged d [] = one-tag (rw (regroup (ascii "<a href=\"") (hrefOf d) (ascii "\"") [] (ascii ">")) (link-open (href-clean d)))
 open-tagged d (b ∷ t) = one-tag (rw (open-titled (hrefOf d) (textOf (b ∷ t))) (link-open-titled (href-clean d) (text-clean (b ∷ t))))
 
-module _ (s : List ℕ) (rows : List (List ℕ)) where
-  written-tagged : (a o c : Option (List ℕ)) (l : List ℕ) → Tagged (writtenBy s a o c l .bytes)
+module _ (T : Texts) (js : List Listed) (rows : List (List ℕ)) where
+  written-tagged : (a o c : Option (List ℕ)) (l : List ℕ) → Tagged (writtenBy T js a o c l .bytes)
   unfolding writtenBy
-  written-tagged (some r) o c l = code-tagged (bytesOf s (text r))
-  written-tagged none (some r) c l = open-tagged (bytesOf s (destination r)) (bytesOf s (title r))
+  written-tagged (some r) o c l = code-tagged (bytesOf (T .note) (text r))
+  written-tagged none (some r) c l = open-tagged (bytesOf (targetText T js r) (destination r)) (bytesOf (targetText T js r) (title r))
   written-tagged none none (some r) l = one-tag link-close
   written-tagged none none none l = escaped-tagged (getD l (backslash l) 0)
 
-  content-tagged : (k : ℕ) (l : List ℕ) (at : ℕ) → Tagged (contentFrom s rows k l at)
+  content-tagged : (k : ℕ) (l : List ℕ) (at : ℕ) → Tagged (contentFrom T js rows k l at)
   unfolding contentFrom
   content-tagged k [] at = claims.none
   content-tagged zero (b ∷ l) at =
       tagged-append (written-tagged (firstRow (codeStarts at) rows) (firstRow (linkStarts at) rows) (firstRow (linkCloses at) rows) (b ∷ l))
-      (content-tagged (writtenAt s rows (b ∷ l) at .size - 1) l (at + 1))
+      (content-tagged (writtenAt T js rows (b ∷ l) at .size - 1) l (at + 1))
   content-tagged (suc k) (b ∷ l) at = content-tagged k l (at + 1)
 
-  paragraph-tagged : (q : Placed) → Tagged (paragraphPage s rows q)
+  paragraph-tagged : (q : Placed) → Tagged (paragraphPage T js rows q)
   unfolding paragraphPage
   paragraph-tagged q = tagged-append (tagged-append (one-tag paragraph-open) (content-tagged 0 (q .bytes) (q .at))) (one-tag paragraph-close)
 
-  pub page-tagged : (ps : List Placed) → Tagged (pageBy s ps rows)
+  pub page-tagged : (ps : List Placed) → Tagged (pageBy T js ps rows)
   unfolding pageBy flatMap
   page-tagged [] = claims.none
   page-tagged (q ∷ ps) = tagged-append (paragraph-tagged q) (page-tagged ps)
 
-pub law-tagged : (s w : List ℕ) → PageIs s w → Tagged w
+pub law-tagged : (T : Texts) (w : List ℕ) → PageIs T w → Tagged w
 unfolding pageOf
-law-tagged s w p = subst Tagged (page-iff s w .1 p) (page-tagged s (spanRows s) (paragraphs s))
+law-tagged T w p = subst Tagged (page-iff T w .1 p) (page-tagged T (joined T) (spanRows T) (paragraphs (T .note)))

@@ -16,14 +16,15 @@ use Rattle.marking.specs.Marking.{Kind, code, plain, nothing, opening, closing,
 use Rattle.marking.specs.Marking as kinds
 use Rattle.marking.specs.Spans.{codeSpan, linkSpan, CodeOf, LinkOf}
 use Rattle.marking.proofs.Roles.{nothing≢opening, nothing≢closing, opening≢closing, closing≢opening}
+use Rattle.texts.specs.Texts.{Texts}
 use Rattle.block.specs.Block.{Placed}
-use Rattle.row.specs.declared.Definition.{Definition}
+use Rattle.row.specs.Row.{Listed}
 use Rattle.row.specs.First.{bytesOf, labelsOf}
 use Rattle.definition.proofs.NotePlaces.{Inside}
 use Rattle.inline.specs.Pieces.{Starts, an-escape, code-span, backticks, opening as opens, closing as closes, other, Backticks}
 use Rattle.inline.specs.Tails.{Tail, lengthOf}
 use Rattle.inline.specs.Rows.{rowEnd}
-use Rattle.inline.specs.ReadingRows.{textOf, spanRow}
+use Rattle.inline.specs.ReadingRows.{textOf}
 use Rattle.inline.proofs.Ticks.{ticks-in}
 use Rattle.inline.proofs.SpanBounds.{SpanWithin, span-within}
 use Rattle.note.specs.Note.{MarkingOf}
@@ -32,7 +33,7 @@ use Rattle.escaping.specs.Escaping.{escaped}
 use Rattle.page.specs.Reading.{rowStart, textEnd, text, firstRow, codeStarts, linkStarts, linkCloses, from, Bare}
 use Rattle.page.proofs.Found.{none-if, by-found}
 use Rattle.page.proofs.Turns.{turn-escape, turn-byte, turn-bytes, turn-code, turn-open, turn-close}
-use Rattle.page.proofs.Pieces.{RowsHere, grows, stands-inside, ends-inside, opening-role, closing-role, code-at, open-at, close-at, code-found, close-found}
+use Rattle.page.proofs.Pieces.{rowIn, RowsHere, grows, stands-inside, ends-inside, opening-role, closing-role, code-at, open-at, close-at, code-found, close-found}
 use Rattle.page.proofs.Texts.{pieceText}
 
 -- a byte that is no backslash starts no escape
@@ -47,23 +48,23 @@ escaped-close : escaped 93 ≡ 93 ∷ []
 unfolding escaped
 escaped-close = refl
 
-module _ (s : List ℕ) (ds : List Definition) (q : Placed) (m : Marking Tail) (c : MarkingOf s ds q m) (w : Inside s q) (rows : List (List ℕ)) (h : RowsHere s ds q m rows) where
+module _ (T : Texts) (js : List Listed) (q : Placed) (m : Marking Tail) (c : MarkingOf T js q m) (w : Inside (T .note) q) (rows : List (List ℕ)) (h : RowsHere T js q m rows) where
   -- the page of the paragraph from its place a on
   abbrev pub on-from : ℕ → List ℕ
-  on-from a = from s rows (q .bytes) (q .at) a
+  on-from a = from T js rows (q .bytes) (q .at) a
 
   -- ---- what does not stand at a place within a piece
   module _ (k : ℕ) (x : Piece) (a : At (m .pieces) k x) (i : ℕ) (lo : x .start ≤ i) (hi : i < x .end) (in-p : i < length (q .bytes)) where
     no-code : x .kind ≢ code → firstRow (codeStarts (q .at + i)) rows ≡ none
-    no-code n = none-if _ (λ r e. n (code-at s ds q m c rows h k x a i lo hi in-p r e .0))
+    no-code n = none-if _ (λ r e. n (code-at T js q m c rows h k x a i lo hi in-p r e .0))
 
     no-open : role (x .kind) ≢ opening → firstRow (linkStarts (q .at + i)) rows ≡ none
-    no-open n = none-if _ (λ r e. let o = open-at s ds q m c rows h k x a i lo hi in-p r e in n (opening-role s ds q m c x (o .closer) (o .with-tail) (o .link)))
+    no-open n = none-if _ (λ r e. let o = open-at T js q m c rows h k x a i lo hi in-p r e in n (opening-role T js q m c x (o .closer) (o .with-tail) (o .link)))
 
     no-close : role (x .kind) ≢ closing → firstRow (linkCloses (q .at + i)) rows ≡ none
-    no-close n = none-if _ (λ r e. let o = close-at s ds q m c rows h k x a i lo hi in-p r e in n (closing-role s ds q m c (o .opener) x (o .with-tail) (o .link)))
+    no-close n = none-if _ (λ r e. let o = close-at T js q m c rows h k x a i lo hi in-p r e in n (closing-role T js q m c (o .opener) x (o .with-tail) (o .link)))
 
-    bare : x .kind ≢ code → role (x .kind) ≡ nothing → Bare s rows (q .bytes) (q .at) i
+    bare : x .kind ≢ code → role (x .kind) ≡ nothing → Bare T js rows (q .bytes) (q .at) i
     bare n e =
         record {
           no-code = no-code n;
@@ -73,18 +74,18 @@ module _ (s : List ℕ) (ds : List Definition) (q : Placed) (m : Marking Tail) (
 
   -- after the piece x the reading goes on at its end, or, after the closing piece of a link, at the end of the tail
   pub data Stepped (x : Piece) : Type 0 where
-    on : ((o : Piece) (t : Tail) → LinkOf m o x t → ⊥) → on-from (x .start) ≡ pieceText s rows q x ++ on-from (x .end) → Stepped x
-    past : (o : Piece) (t : Tail) → LinkOf m o x t → on-from (x .start) ≡ pieceText s rows q x ++ on-from (x .end + lengthOf t) → Stepped x
+    on : ((o : Piece) (t : Tail) → LinkOf m o x t → ⊥) → on-from (x .start) ≡ pieceText T js rows q x ++ on-from (x .end) → Stepped x
+    past : (o : Piece) (t : Tail) → LinkOf m o x t → on-from (x .start) ≡ pieceText T js rows q x ++ on-from (x .end + lengthOf t) → Stepped x
 
   quiet : (x : Piece) → role (x .kind) ≢ closing → (o : Piece) (t : Tail) → LinkOf m o x t → ⊥
-  quiet x n o t l = n (closing-role s ds q m c o x t l)
+  quiet x n o t l = n (closing-role T js q m c o x t l)
 
-  pub code-bytes : (x : Piece) → CodeOf m x → (r : List ℕ) → spanRow s (q .at) (q .bytes) ds (codeSpan x) ≡ r → bytesOf s (text r) ≡ bytesOf (q .bytes) (textOf (q .bytes) (codeSpan x))
+  pub code-bytes : (x : Piece) → CodeOf m x → (r : List ℕ) → rowIn T js q (codeSpan x) ≡ r → bytesOf (T .note) (text r) ≡ bytesOf (q .bytes) (textOf (q .bytes) (codeSpan x))
   code-bytes x o r e =
       let t = textOf (q .bytes) (codeSpan x) in
-      let b : SpanWithin (q .bytes) (codeSpan x) = span-within (q .bytes) (labelsOf s ds) m c (codeSpan x) o in
+      let b : SpanWithin (q .bytes) (codeSpan x) = span-within (q .bytes) (labelsOf T js) m c (codeSpan x) o in
       rw (← e)
-      (part-bytes s q w (t .start) (t .end - t .start) (omega (arith, b .text-ordered, b .text-to, b .to)) (q .at + t .start) (q .at + t .end) refl
+      (part-bytes (T .note) q w (t .start) (t .end - t .start) (omega (arith, b .text-ordered, b .text-to, b .to)) (q .at + t .start) (q .at + t .end) refl
       (omega (arith, b .text-ordered)))
 
   step-text : (k : ℕ) (x : Piece) → At (m .pieces) k x → x .kind ≡ plain → x .start ≤ x .end → x .end ≤ length (q .bytes)
@@ -94,7 +95,7 @@ module _ (s : List ℕ) (ds : List Definition) (q : Placed) (m : Marking Tail) (
       let j : x .start + (x .end - x .start) ≡ x .end = omega arith in
       let role-is : role (x .kind) ≡ nothing = ap role e in
       on (quiet x (λ z. nothing≢closing (sym role-is ∙ z)))
-      (turn-bytes s rows (q .bytes) (q .at) (x .end - x .start) (x .start) (omega arith)
+      (turn-bytes T js rows (q .bytes) (q .at) (x .end - x .start) (x .start) (omega arith)
       (λ i lo hi. (bare k x a i lo (omega arith) (omega arith) n role-is, f i lo (omega arith)))
       ∙ rw (e, j) refl)
 
@@ -103,12 +104,12 @@ module _ (s : List ℕ) (ds : List Definition) (q : Placed) (m : Marking Tail) (
       let of : CodeOf m x = record { index = k; at = a; is-code = e } in
       by-found (firstRow (codeStarts (q .at + x .start)) rows)
       (λ r f.
-      let row : spanRow s (q .at) (q .bytes) ds (codeSpan x) ≡ r = code-at s ds q m c rows h k x a (x .start) (omega arith) g l r f .1 in
+      let row : rowIn T js q (codeSpan x) ≡ r = code-at T js q m c rows h k x a (x .start) (omega arith) g l r f .1 in
       let size : rowEnd r - rowStart r ≡ x .end - x .start = rw (← row) (omega arith) in
       on (quiet x (λ z. nothing≢closing (ap role (sym e) ∙ z)))
-      (turn-code s rows (q .bytes) (q .at) (x .start) (x .end) r l f g size
+      (turn-code T js rows (q .bytes) (q .at) (x .start) (x .end) r l f g size
       ∙ rw (e, code-bytes x of r row) refl))
-      (λ f. absurd (code-found s ds q m c rows h x of f))
+      (λ f. absurd (code-found T js q m c rows h x of f))
 
   step-open : (k i : ℕ) → At (m .pieces) k (record { kind = kinds.opens; start = i; end = i + 1 }) → getD (q .bytes) i 0 ≡ 91 → i < length (q .bytes)
       → Stepped (record { kind = kinds.opens; start = i; end = i + 1 })
@@ -117,12 +118,12 @@ module _ (s : List ℕ) (ds : List Definition) (q : Placed) (m : Marking Tail) (
       let no = no-code k x a i (omega arith) (omega arith) l (λ z. let y : _≡_ {A = ℕ} 0 1 = cc in absurd (omega arith)) in
       on (quiet x opening≢closing)
       (by-found (firstRow (linkStarts (q .at + i)) rows)
-      (λ r f. turn-open s rows (q .bytes) (q .at) i r l no f ∙ rw f refl)
+      (λ r f. turn-open T js rows (q .bytes) (q .at) i r l no f ∙ rw f refl)
       (λ f.
-      let b : Bare s rows (q .bytes) (q .at) i = record { no-code = no; no-opening = f; no-closing = no-close k x a i (omega arith) (omega arith) l opening≢closing } in
-      turn-byte s rows (q .bytes) (q .at) i l b (no-escape (q .bytes) i 91 e refl) ∙ rw (f, e, escaped-open) refl))
+      let b : Bare T js rows (q .bytes) (q .at) i = record { no-code = no; no-opening = f; no-closing = no-close k x a i (omega arith) (omega arith) l opening≢closing } in
+      turn-byte T js rows (q .bytes) (q .at) i l b (no-escape (q .bytes) i 91 e refl) ∙ rw (f, e, escaped-open) refl))
 
-  closing-size : (i : ℕ) (o : Piece) (t : Tail) (r : List ℕ) → spanRow s (q .at) (q .bytes) ds (linkSpan o (record { kind = kinds.closes; start = i; end = i + 1 }) t) ≡ r
+  closing-size : (i : ℕ) (o : Piece) (t : Tail) (r : List ℕ) → rowIn T js q (linkSpan o (record { kind = kinds.closes; start = i; end = i + 1 }) t) ≡ r
       → rowEnd r - textEnd r ≡ i + 1 + lengthOf t - i
   closing-size i o t r e = rw (← e) (omega arith)
 
@@ -134,21 +135,21 @@ module _ (s : List ℕ) (ds : List Definition) (q : Placed) (m : Marking Tail) (
       let no-open-here = no-open k x a i (omega arith) (omega arith) l closing≢opening in
       by-found (firstRow (linkCloses (q .at + i)) rows)
       (λ r f.
-      let o = close-at s ds q m c rows h k x a i (omega arith) (omega arith) l r f in
+      let o = close-at T js q m c rows h k x a i (omega arith) (omega arith) l r f in
       let size = closing-size i (o .opener) (o .with-tail) r (o .row-is) in
       past (o .opener) (o .with-tail) (o .link)
-      (turn-close s rows (q .bytes) (q .at) i (i + 1 + lengthOf (o .with-tail)) r l no no-open-here f (omega arith) size ∙ rw f refl))
+      (turn-close T js rows (q .bytes) (q .at) i (i + 1 + lengthOf (o .with-tail)) r l no no-open-here f (omega arith) size ∙ rw f refl))
       (λ f.
-      let b : Bare s rows (q .bytes) (q .at) i = record { no-code = no; no-opening = no-open-here; no-closing = f } in
-      on (λ o t z. absurd (close-found s ds q m c rows h o x t z f))
-      (turn-byte s rows (q .bytes) (q .at) i l b (no-escape (q .bytes) i 93 e refl) ∙ rw (f, e, escaped-close) refl))
+      let b : Bare T js rows (q .bytes) (q .at) i = record { no-code = no; no-opening = no-open-here; no-closing = f } in
+      on (λ o t z. absurd (close-found T js q m c rows h o x t z f))
+      (turn-byte T js rows (q .bytes) (q .at) i l b (no-escape (q .bytes) i 93 e refl) ∙ rw (f, e, escaped-close) refl))
 
   step-escape : (k i : ℕ) → At (m .pieces) k (record { kind = kinds.escape; start = i; end = i + 2 }) → escapes (drop i (q .bytes)) ≡ true → i < length (q .bytes)
       → Stepped (record { kind = kinds.escape; start = i; end = i + 2 })
   step-escape k i a e l =
       let x : Piece = record { kind = kinds.escape; start = i; end = i + 2 } in
       on (quiet x nothing≢closing)
-      (turn-escape s rows (q .bytes) (q .at) i l (bare k x a i (omega arith) (omega arith) l (λ z. let y : _≡_ {A = ℕ} 0 1 = cc in absurd (omega arith)) refl) e)
+      (turn-escape T js rows (q .bytes) (q .at) i l (bare k x a i (omega arith) (omega arith) l (λ z. let y : _≡_ {A = ℕ} 0 1 = cc in absurd (omega arith)) refl) e)
 
   pub tick-no-escape : (i n j : ℕ) → Backticks (q .bytes) i n → i ≤ j → j < i + n → escapes (drop j (q .bytes)) ≡ false
   tick-no-escape i n j r lo hi =
@@ -167,4 +168,4 @@ module _ (s : List ℕ) (ds : List Definition) (q : Placed) (m : Marking Tail) (
   step-by k {x} a g l e (other {a = i} b d n) = step-text k x a refl (omega arith) e (one-place i d)
 
   pub step : (k : ℕ) (x : Piece) → At (m .pieces) k x → role (x .kind) ≢ trailing → Stepped x
-  step k x a n = step-by k a (grows s ds q m c k x a n) (stands-inside s ds q m c k x a n) (ends-inside s ds q m c k x a n) (c .kinds k x a n)
+  step k x a n = step-by k a (grows T js q m c k x a n) (stands-inside T js q m c k x a n) (ends-inside T js q m c k x a n) (c .kinds k x a n)

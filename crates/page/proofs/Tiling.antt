@@ -17,14 +17,14 @@ use Rattle.marking.proofs.Lists.{at-inside}
 use Rattle.marking.proofs.Tiles.{reach, tiles-start, tiles-order}
 use Rattle.marking.proofs.Pairs.{link-pair}
 use Rattle.marking.proofs.Roles.{opening≢closing, trailing≢opening, trailing≢closing}
+use Rattle.texts.specs.Texts.{Texts}
 use Rattle.block.specs.Block.{Placed}
-use Rattle.row.specs.declared.Definition.{Definition}
+use Rattle.row.specs.Row.{Listed}
 use Rattle.row.specs.First.{labelsOf}
 use Rattle.definition.proofs.NotePlaces.{Inside}
 use Rattle.inline.specs.Pieces.{Starts, an-escape, code-span, backticks, opening as opens, closing as closes, other}
 use Rattle.inline.specs.Tails.{Tail, inline, full, collapsed, shortcut, lengthOf}
 use Rattle.inline.specs.Rows.{rowEnd}
-use Rattle.inline.specs.ReadingRows.{spanRow}
 use Rattle.inline.proofs.Demand3.{links-stand-apart, every-bracket-in-one-pair-at-most}
 use Rattle.note.specs.Note.{MarkingOf}
 use Rattle.note.proofs.Placing.{at-getD}
@@ -35,15 +35,15 @@ use Rattle.page.specs.ByRows.{spanOf, IsLink, Within, TextAt, RangeIs}
 use Rattle.page.specs.ByRows as by-rows
 use Rattle.page.specs.Reading.{rowStart, firstRow, linkStarts, linkCloses}
 use Rattle.page.proofs.Found.{by-found}
-use Rattle.page.proofs.Pieces.{RowsHere, grows, stands-inside, ends-inside, same-index, open-at, close-at, open-found, close-found}
+use Rattle.page.proofs.Pieces.{rowIn, RowsHere, grows, stands-inside, ends-inside, same-index, open-at, close-at, open-found, close-found}
 use Rattle.page.proofs.Steps.{no-escape, tick-no-escape}
 
 -- "2 inline, 3 full, 4 collapsed, 5 shortcut"
-link-number : (s : List ℕ) (at : ℕ) (p : List ℕ) (ds : List Definition) (o c : Piece) (t : Tail) → IsLink (spanRow s at p ds (linkSpan o c t))
-link-number s at p ds o c (inline n d t) = (omega arith, omega arith)
-link-number s at p ds o c (full n k) = (omega arith, omega arith)
-link-number s at p ds o c (collapsed k) = (omega arith, omega arith)
-link-number s at p ds o c (shortcut k) = (omega arith, omega arith)
+link-number : (T : Texts) (js : List Listed) (q : Placed) (o c : Piece) (t : Tail) → IsLink (rowIn T js q (linkSpan o c t))
+link-number T js q o c (inline n d t) = (omega arith, omega arith)
+link-number T js q o c (full n k) = (omega arith, omega arith)
+link-number T js q o c (collapsed k) = (omega arith, omega arith)
+link-number T js q o c (shortcut k) = (omega arith, omega arith)
 
 -- ---- where pieces end
 reach-next : (a : ℕ) (ps : List Piece) (k : ℕ) (x : Piece) → At ps k x → reach a (take (suc k) ps) ≡ x .end
@@ -55,10 +55,10 @@ reach-all : (a b : ℕ) (ps : List Piece) → Tiles a ps b → reach a ps ≡ b
 reach-all a b [] t = t
 reach-all a b (x ∷ ps) t = reach-all (x .end) b ps (t .2)
 
-module _ (s : List ℕ) (ds : List Definition) (q : Placed) (m : Marking Tail) (c : MarkingOf s ds q m) (w : Inside s q) (rows : List (List ℕ)) (h : RowsHere s ds q m rows) where
+module _ (T : Texts) (js : List Listed) (q : Placed) (m : Marking Tail) (c : MarkingOf T js q m) (w : Inside (T .note) q) (rows : List (List ℕ)) (h : RowsHere T js q m rows) where
   -- the law gives something from place a to place b
   abbrev Some : ℕ → ℕ → Type 0
-  Some a b = (v : List ℕ) × RangeIs s rows q a b v
+  Some a b = (v : List ℕ) × RangeIs T js rows q a b v
 
   both : {a b d : ℕ} → Some a b → Some b d → Some a d
   both (v, x) (u, y) = (v ++ u, by-rows.beside x y)
@@ -101,10 +101,10 @@ module _ (s : List ℕ) (ds : List Definition) (q : Placed) (m : Marking Tail) (
           cases (no z) (yes v) (no f) = absurd (no-tail (ap (λ (p : Piece). role (p .kind)) (same-there (suc (l .to)) (tailPiece d (lengthOf t)) tail-at (omega arith))))
           cases (no z) (no v) f = absurd (no-closing o t (subst (λ (p : Piece). LinkOf m o p t) (sym (same-there (l .to) d (l .close-at) (omega arith))) l))
 
-    text-at : i < length (q .bytes) → TextAt s rows q i
+    text-at : i < length (q .bytes) → TextAt T js rows q i
     text-at l row j (u, v) = let r = h .covering row j i l u v in cases (r .span) (r .of-marking) (r .row-is)
       where
-        cases : (y : Span Tail) → SpanOf m y → spanRow s (q .at) (q .bytes) ds y ≡ row → IsLink row × Within s rows q i (spanOf row .text)
+        cases : (y : Span Tail) → SpanOf m y → rowIn T js q y ≡ row → IsLink row × Within T js rows q i (spanOf row .text)
         cases (codeSpan y) o e =
             let st : q .at + y .start ≡ rowStart row = ap rowStart e in
             let en : q .at + y .end ≡ rowEnd row = ap rowEnd e in
@@ -114,16 +114,16 @@ module _ (s : List ℕ) (ds : List Definition) (q : Placed) (m : Marking Tail) (
             let en : q .at + (d .end + lengthOf t) ≡ rowEnd row = ap rowEnd e in
             let low : o .end ≤ i = after-opening o d t y (omega arith) in
             let high : i < d .start = before-closing o d t y (omega arith) in
-            subst (λ (z : List ℕ). IsLink z × Within s rows q i (spanOf z .text)) e (link-number s (q .at) (q .bytes) ds o d t, (omega arith, omega arith))
+            subst (λ (z : List ℕ). IsLink z × Within T js rows q i (spanOf z .text)) e (link-number T js q o d t, (omega arith, omega arith))
 
   -- n bytes of text
-  bytes : (n a : ℕ) → ((i : ℕ) → a ≤ i → i < a + n → TextAt s rows q i × (i < length (q .bytes)) × (escapes (drop i (q .bytes)) ≡ false)) → Some a (a + n)
-  bytes zero a f = ([], subst (λ (b : ℕ). RangeIs s rows q a b []) (sym (add-zero a)) by-rows.nothing)
+  bytes : (n a : ℕ) → ((i : ℕ) → a ≤ i → i < a + n → TextAt T js rows q i × (i < length (q .bytes)) × (escapes (drop i (q .bytes)) ≡ false)) → Some a (a + n)
+  bytes zero a f = ([], subst (λ (b : ℕ). RangeIs T js rows q a b []) (sym (add-zero a)) by-rows.nothing)
   bytes (suc n) a f =
       let (t, l, e) = f a (omega arith) (omega arith) in
       let (v, r) = bytes n (a + 1) (λ i lo hi. f i (omega arith) (omega arith)) in
       let z : a + 1 + n ≡ a + suc n = omega arith in
-      (escaped (getD (q .bytes) a 0) ++ v, subst (λ (b : ℕ). RangeIs s rows q a b (escaped (getD (q .bytes) a 0) ++ v)) z (by-rows.beside (by-rows.byte t l e) r))
+      (escaped (getD (q .bytes) a 0) ++ v, subst (λ (b : ℕ). RangeIs T js rows q a b (escaped (getD (q .bytes) a 0) ++ v)) z (by-rows.beside (by-rows.byte t l e) r))
 
   -- ---- a piece by itself
   piece-range : (k : ℕ) {x : Piece} → At (m .pieces) k x → role (x .kind) ≢ trailing → ((d : Piece) (t : Tail) → LinkOf m x d t → ⊥) → ((o : Piece) (t : Tail) → LinkOf m o x t → ⊥)
@@ -131,10 +131,10 @@ module _ (s : List ℕ) (ds : List Definition) (q : Placed) (m : Marking Tail) (
   piece-range k {x} a n o d l u (an-escape {a = i} e) =
       (_, by-rows.escape (text-at k x a n (λ z. let y : _≡_ {A = ℕ} 0 1 = cc in absurd (omega arith)) o d i (omega arith) (omega arith) l) e)
   piece-range k {x} a n o d l u (code-span r f) =
-      (_, by-rows.code-span {row = spanRow s (q .at) (q .bytes) ds (codeSpan x)} (h .each (codeSpan x) (record { index = k; at = a; is-code = refl })) refl refl (code-span-iff _ _ .1 refl))
+      (_, by-rows.code-span {row = rowIn T js q (codeSpan x)} (h .each (codeSpan x) (record { index = k; at = a; is-code = refl })) refl refl (code-span-iff _ _ .1 refl))
   piece-range k {x} a n o d l u (backticks {a = i} {n = j} r f) =
       bytes j i (λ y lo hi.
-      (text-at k x a n (λ z. let y : _≡_ {A = ℕ} 0 1 = cc in absurd (omega arith)) o d y lo hi (omega arith), omega arith, tick-no-escape s ds q m c w rows h i j y r lo hi))
+      (text-at k x a n (λ z. let y : _≡_ {A = ℕ} 0 1 = cc in absurd (omega arith)) o d y lo hi (omega arith), omega arith, tick-no-escape T js q m c w rows h i j y r lo hi))
   piece-range k {x} a n o d l u (opens {a = i} e) =
       (_, by-rows.byte (text-at k x a n (λ z. let y : _≡_ {A = ℕ} 0 1 = cc in absurd (omega arith)) o d i (omega arith) (omega arith) l) l (no-escape (q .bytes) i 91 e refl))
   piece-range k {x} a n o d l u (closes {a = i} e) =
@@ -146,7 +146,7 @@ module _ (s : List ℕ) (ds : List Definition) (q : Placed) (m : Marking Tail) (
   link-range : (k j : ℕ) (x d : Piece) (t : Tail) → m .links k j ≡ some t → At (m .pieces) k x → At (m .pieces) j d → Some (x .end) (d .start) → Some (x .start) (d .end + lengthOf t)
   link-range k j x d t e a b (v, r) =
       let l : LinkOf m x d t = record { from = k; to = j; linked = e; open-at = a; close-at = b } in
-      (_, by-rows.link {row = spanRow s (q .at) (q .bytes) ds (linkSpan x d t)} (h .each (linkSpan x d t) l) (link-number s (q .at) (q .bytes) ds x d t) refl refl (link-open-iff _ _ _ .1 refl) r)
+      (_, by-rows.link {row = rowIn T js q (linkSpan x d t)} (h .each (linkSpan x d t) l) (link-number T js q x d t) refl refl (link-open-iff _ _ _ .1 refl) r)
 
   -- what a piece is to links
   data Sort (k : ℕ) (x : Piece) : Type 0 where
@@ -156,20 +156,20 @@ module _ (s : List ℕ) (ds : List Definition) (q : Placed) (m : Marking Tail) (
 
   sort : (k : ℕ) (x : Piece) → At (m .pieces) k x → role (x .kind) ≢ trailing → Sort k x
   sort k x a n =
-      let g = grows s ds q m c k x a n in
-      let l = stands-inside s ds q m c k x a n in
+      let g = grows T js q m c k x a n in
+      let l = stands-inside T js q m c k x a n in
       by-found (firstRow (linkStarts (q .at + x .start)) rows)
       (λ r e.
-      let o = open-at s ds q m c rows h k x a (x .start) (omega arith) g l r e in
-      let f : o .link .from ≡ k = same-index s ds q m c (o .link .from) x k x (o .link .open-at) a n (omega arith) g in
+      let o = open-at T js q m c rows h k x a (x .start) (omega arith) g l r e in
+      let f : o .link .from ≡ k = same-index T js q m c (o .link .from) x k x (o .link .open-at) a n (omega arith) g in
       opens-one (o .link .to) (o .closer) (o .with-tail) (ap (λ (i : ℕ). m .links i (o .link .to)) (sym f) ∙ o .link .linked) (o .link .close-at))
       (λ e.
       by-found (firstRow (linkCloses (q .at + x .start)) rows)
       (λ r z.
-      let o = close-at s ds q m c rows h k x a (x .start) (omega arith) g l r z in
-      let f : o .link .to ≡ k = same-index s ds q m c (o .link .to) x k x (o .link .close-at) a n (omega arith) g in
+      let o = close-at T js q m c rows h k x a (x .start) (omega arith) g l r z in
+      let f : o .link .to ≡ k = same-index T js q m c (o .link .to) x k x (o .link .close-at) a n (omega arith) g in
       closes-one (o .link .from) (o .with-tail) (ap (m .links (o .link .from)) (sym f) ∙ o .link .linked))
-      (λ z. alone (λ d t y. open-found s ds q m c rows h x d t y e) (λ o t y. close-found s ds q m c rows h o x t y z)))
+      (λ z. alone (λ d t y. open-found T js q m c rows h x d t y e) (λ o t y. close-found T js q m c rows h o x t y z)))
 
   -- ---- pieces that cut no link: from piece k on, and before piece j
   record Uncut (k j : ℕ) : Type 0 where
@@ -191,14 +191,14 @@ module _ (s : List ℕ) (ds : List Definition) (q : Placed) (m : Marking Tail) (
 
       one-opening : f ≡ k → g ≡ j
       one-opening z =
-          every-bracket-in-one-pair-at-most (q .bytes) (labelsOf s ds) m c .for-opening k g j
+          every-bracket-in-one-pair-at-most (q .bytes) (labelsOf T js) m c .for-opening k g j
           (ap (λ (i : ℕ). m .pairs i g) (sym z) ∙ c .links-are f g u .0 e .paired) (c .links-are k j t .0 l .paired)
 
       later : k < f → j < f
-      later z = links-stand-apart (q .bytes) (labelsOf s ds) m c k j f g t u l e z
+      later z = links-stand-apart (q .bytes) (labelsOf T js) m c k j f g t u l e z
 
       earlier : f < k → g < k
-      earlier z = links-stand-apart (q .bytes) (labelsOf s ds) m c f g k j u t e l z
+      earlier z = links-stand-apart (q .bytes) (labelsOf T js) m c f g k j u t e l z
 
       -- its opening piece closes nothing, and its tail neither opens nor closes
       not-closed-at : g ≡ k → ⊥
@@ -295,7 +295,7 @@ module _ (s : List ℕ) (ds : List Definition) (q : Placed) (m : Marking Tail) (
 
     by-sort : Sort k x → Some (place k) (place j)
     by-sort (alone o d) =
-        let one = piece-range k a no-tail o d (stands-inside s ds q m c k x a no-tail) (ends-inside s ds q m c k x a no-tail) (c .kinds k x a no-tail) in
+        let one = piece-range k a no-tail o d (stands-inside T js q m c k x a no-tail) (ends-inside T js q m c k x a no-tail) (c .kinds k x a no-tail) in
         let others = ih (suc k) j (omega arith) (omega arith) top (past-one k j x a o d u) in
         rw (← starts-at k x a) (both one (rw (ends-at k x a) at others))
     by-sort (opens-one i d t e b) =
@@ -308,7 +308,7 @@ module _ (s : List ℕ) (ds : List Definition) (q : Placed) (m : Marking Tail) (
     by-sort (closes-one i t e) = absurd (omega (arith, u .closed i k t e (omega arith) lo, link-pair c i k t e .before))
 
   no-pieces : (k j : ℕ) → k ≡ j → Some (place k) (place j)
-  no-pieces k j e = ([], subst (λ (i : ℕ). RangeIs s rows q (place k) (place i) []) e by-rows.nothing)
+  no-pieces k j e = ([], subst (λ (i : ℕ). RangeIs T js rows q (place k) (place i) []) e by-rows.nothing)
 
   ranges : (n : ℕ) → Ranges n
   ranges zero k j lo hi top u = no-pieces k j (omega arith)
@@ -329,7 +329,7 @@ module _ (s : List ℕ) (ds : List Definition) (q : Placed) (m : Marking Tail) (
   }
 
   -- the law gives something for the whole paragraph
-  pub range-some : (v : List ℕ) × RangeIs s rows q 0 (length (q .bytes)) v
+  pub range-some : (v : List ℕ) × RangeIs T js rows q 0 (length (q .bytes)) v
   range-some =
       let n = length (m .pieces) in
       let all : place n ≡ length (q .bytes) = ap (reach 0) (take-all n (m .pieces) (omega arith)) ∙ reach-all 0 (length (q .bytes)) (m .pieces) (c .tiled) in

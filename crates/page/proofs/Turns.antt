@@ -10,41 +10,42 @@ use lib.ListN.{length, getD, take, drop, drop-of-length-le}
 use lib.Seq.{drop-drop, getD-drop}
 use Rattle.scan.specs.Byte.{escapes}
 use Rattle.scan.proofs.Scan.{at-cons}
+use Rattle.texts.specs.Texts.{Texts}
+use Rattle.row.specs.Row.{Listed}
 use Rattle.row.specs.First.{bytesOf}
 use Rattle.inline.specs.Rows.{rowEnd}
 use Rattle.escaping.specs.Escaping.{escaped}
 use Rattle.html.specs.Tags.{linkClose}
 use Rattle.code.specs.Reading.{codeElement}
-use Rattle.html.specs.Reading.{linkOpen}
-use Rattle.page.specs.Reading.{rowStart, textEnd, text, destination, title, Written, unit, firstRow, codeStarts, linkStarts, linkCloses, writtenBy, writtenAt, contentFrom}
+use Rattle.page.specs.Reading.{rowStart, textEnd, text, openTag, Written, unit, firstRow, codeStarts, linkStarts, linkCloses, writtenBy, writtenAt, contentFrom}
 use Rattle.page.specs.Reading as reading
 
-module _ (s : List ℕ) (rows : List (List ℕ)) where
-  content-over : (k : ℕ) (l : List ℕ) (at : ℕ) → contentFrom s rows k l at ≡ contentFrom s rows 0 (drop k l) (at + k)
+module _ (T : Texts) (js : List Listed) (rows : List (List ℕ)) where
+  content-over : (k : ℕ) (l : List ℕ) (at : ℕ) → contentFrom T js rows k l at ≡ contentFrom T js rows 0 (drop k l) (at + k)
   unfolding contentFrom
   content-over zero l at = rw (add-zero at)
   content-over (suc k) [] at = refl
-  content-over (suc k) (b ∷ l) at = content-over k l (at + 1) ∙ ap (contentFrom s rows 0 (drop k l)) (omega arith)
+  content-over (suc k) (b ∷ l) at = content-over k l (at + 1) ∙ ap (contentFrom T js rows 0 (drop k l)) (omega arith)
 
-  content-cons : (b : ℕ) (l : List ℕ) (at n : ℕ) {w : Written} → writtenAt s rows (b ∷ l) at ≡ w → w .size ≡ suc n
-      → contentFrom s rows 0 (b ∷ l) at ≡ w .bytes ++ contentFrom s rows 0 (drop n l) (at + suc n)
+  content-cons : (b : ℕ) (l : List ℕ) (at n : ℕ) {w : Written} → writtenAt T js rows (b ∷ l) at ≡ w → w .size ≡ suc n
+      → contentFrom T js rows 0 (b ∷ l) at ≡ w .bytes ++ contentFrom T js rows 0 (drop n l) (at + suc n)
   unfolding contentFrom
   content-cons b l at n {w} q e =
       let k : w .size - 1 ≡ n = omega arith in
-      ap (λ (x : Written). x .bytes ++ contentFrom s rows (x .size - 1) l (at + 1)) q
-      ∙ ap (λ (j : ℕ). w .bytes ++ contentFrom s rows j l (at + 1)) k
-      ∙ ap (λ (v : List ℕ). w .bytes ++ v) (content-over n l (at + 1) ∙ ap (contentFrom s rows 0 (drop n l)) (omega arith))
+      ap (λ (x : Written). x .bytes ++ contentFrom T js rows (x .size - 1) l (at + 1)) q
+      ∙ ap (λ (j : ℕ). w .bytes ++ contentFrom T js rows j l (at + 1)) k
+      ∙ ap (λ (v : List ℕ). w .bytes ++ v) (content-over n l (at + 1) ∙ ap (contentFrom T js rows 0 (drop n l)) (omega arith))
 
--- the paragraph p at place `off` of the note s
-module _ (s : List ℕ) (rows : List (List ℕ)) (p : List ℕ) (off : ℕ) where
+-- the paragraph p at place `off` of the note
+module _ (T : Texts) (js : List Listed) (rows : List (List ℕ)) (p : List ℕ) (off : ℕ) where
   abbrev from : ℕ → List ℕ
-  from = reading.from s rows p off
+  from = reading.from T js rows p off
 
   abbrev here : ℕ → Written
-  here = reading.here s rows p off
+  here = reading.here T js rows p off
 
   abbrev Bare : ℕ → Type 0
-  Bare = reading.Bare s rows p off
+  Bare = reading.Bare T js rows p off
 
   pub at-end : from (length p) ≡ []
   unfolding contentFrom
@@ -56,9 +57,9 @@ module _ (s : List ℕ) (rows : List (List ℕ)) (p : List ℕ) (off : ℕ) wher
       let j : a + 1 + n ≡ a + suc n = omega arith in
       let z : drop n (drop (a + 1) p) ≡ drop (a + suc n) p = drop-drop n (a + 1) p ∙ ap (λ (i : ℕ). drop i p) j in
       let y : off + a + suc n ≡ off + (a + suc n) = omega arith in
-      let g : writtenAt s rows (getD p a 0 ∷ drop (a + 1) p) (off + a) ≡ w = ap (λ (l : List ℕ). writtenAt s rows l (off + a)) (sym k) ∙ q in
-      ap (λ (l : List ℕ). contentFrom s rows 0 l (off + a)) k
-      ∙ content-cons s rows (getD p a 0) (drop (a + 1) p) (off + a) n g e
+      let g : writtenAt T js rows (getD p a 0 ∷ drop (a + 1) p) (off + a) ≡ w = ap (λ (l : List ℕ). writtenAt T js rows l (off + a)) (sym k) ∙ q in
+      ap (λ (l : List ℕ). contentFrom T js rows 0 l (off + a)) k
+      ∙ content-cons T js rows (getD p a 0) (drop (a + 1) p) (off + a) n g e
       ∙ rw (z, y) refl
 
   bare-unit : (a : ℕ) → Bare a → here a ≡ unit (drop a p)
@@ -91,18 +92,18 @@ module _ (s : List ℕ) (rows : List (List ℕ)) (p : List ℕ) (off : ℕ) wher
 
   -- ---- a row stands there; the next turn is at e
   pub turn-code : (a e : ℕ) (r : List ℕ) → a < length p → firstRow (codeStarts (off + a)) rows ≡ some r → a < e → rowEnd r - rowStart r ≡ e - a
-      → from a ≡ codeElement (bytesOf s (text r)) ++ from e
+      → from a ≡ codeElement (bytesOf (T .note) (text r)) ++ from e
   unfolding writtenBy
   turn-code a e r h k l z =
-      let g : here a ≡ record { size = rowEnd r - rowStart r; bytes = codeElement (bytesOf s (text r)) } = rw k refl in
+      let g : here a ≡ record { size = rowEnd r - rowStart r; bytes = codeElement (bytesOf (T .note) (text r)) } = rw k refl in
       let j : a + suc (e - a - 1) ≡ e = omega arith in
-      turn a (e - a - 1) h g (omega arith) ∙ ap (λ (i : ℕ). codeElement (bytesOf s (text r)) ++ from i) j
+      turn a (e - a - 1) h g (omega arith) ∙ ap (λ (i : ℕ). codeElement (bytesOf (T .note) (text r)) ++ from i) j
 
   pub turn-open : (a : ℕ) (r : List ℕ) → a < length p → firstRow (codeStarts (off + a)) rows ≡ none → firstRow (linkStarts (off + a)) rows ≡ some r
-      → from a ≡ linkOpen (bytesOf s (destination r)) (bytesOf s (title r)) ++ from (a + 1)
+      → from a ≡ openTag T js r ++ from (a + 1)
   unfolding writtenBy
   turn-open a r h n k =
-      let g : here a ≡ record { size = 1; bytes = linkOpen (bytesOf s (destination r)) (bytesOf s (title r)) } = rw (n, k) refl in
+      let g : here a ≡ record { size = 1; bytes = openTag T js r } = rw (n, k) refl in
       turn a 0 h g refl
 
   pub turn-close : (a e : ℕ) (r : List ℕ) → a < length p → firstRow (codeStarts (off + a)) rows ≡ none → firstRow (linkStarts (off + a)) rows ≡ none

@@ -6,10 +6,11 @@ use mathlib.Core.Bool.{true, false}
 use lib.ListN.{length, getD, drop}
 use Rattle.scan.specs.Byte.{escapes}
 use Rattle.scan.specs.Member.{In}
+use Rattle.texts.specs.Texts.{Texts}
 use Rattle.block.specs.Block.{Placed}
 use Rattle.row.specs.declared.Range.{Range}
-use Rattle.row.specs.Row.{range}
-use Rattle.row.specs.First.{bytesOf}
+use Rattle.row.specs.Row.{range, Listed}
+use Rattle.row.specs.First.{bytesOf, namedText}
 use Rattle.span.specs.declared.Span.{Span}
 use Rattle.span.specs.Row.{codeSpanKind, inlineKind, shortcutKind, span}
 use Rattle.inline.specs.Rows.{fromNote}
@@ -30,8 +31,12 @@ IsCode row = spanOf row .kind ≡ codeSpanKind
 abbrev pub IsLink : List ℕ → Type 0
 IsLink row = (inlineKind ≤ spanOf row .kind) × (spanOf row .kind ≤ shortcutKind)
 
--- a paragraph q of the note s, which has these rows; places below are the paragraph's own
-module _ (s : List ℕ) (rows : List (List ℕ)) (q : Placed) where
+-- the text in which the row's destination and title lie, where js is the joined list of the texts T
+abbrev pub textFor : Texts → List Listed → List ℕ → List ℕ
+textFor T js row = namedText T js (spanOf row .definition)
+
+-- a paragraph q of the note, which has these rows, where js is the joined list of the texts T; places below are the paragraph's own
+module _ (T : Texts) (js : List Listed) (rows : List (List ℕ)) (q : Placed) where
   -- "places count from the note's start": from place a of the paragraph to place b
   abbrev pub part : ℕ → ℕ → Range
   part a b = fromNote (q .at) (range a b)
@@ -55,16 +60,17 @@ module _ (s : List ℕ) (rows : List (List ℕ)) (q : Placed) where
     byte : {a : ℕ} → TextAt a → a < length (q .bytes) → escapes (drop a (q .bytes)) ≡ false → RangeIs a (a + 1) (escaped (getD (q .bytes) a 0))
     -- "Code: `<code>`, content, `</code>`"
     code-span : {row : List ℕ} {a b : ℕ} {w : List ℕ} → In row rows → IsCode row → spanOf row .whole ≡ part a b
-        → CodeElement (bytesOf s (spanOf row .text)) w → RangeIs a b w
-    -- "Links: `<a href="D" title="T">text</a>`": of the tail nothing stands there. An absent title is the part 0, 0, so that it is empty.
+        → CodeElement (bytesOf (T .note) (spanOf row .text)) w → RangeIs a b w
+    -- "Links: `<a href="D" title="T">text</a>`": of the tail nothing stands there. "A reference's destination and title places lie in the text that its definition
+    -- row names." An absent title is the part 0, 0, so that it is empty.
     link : {row : List ℕ} {a b c d : ℕ} {o w : List ℕ} → In row rows → IsLink row → spanOf row .whole ≡ part a b → spanOf row .text ≡ part c d
-        → LinkOpen (bytesOf s (spanOf row .destination)) (bytesOf s (spanOf row .title)) o → RangeIs c d w → RangeIs a b (o ++ w ++ linkClose)
+        → LinkOpen (bytesOf (textFor T js row) (spanOf row .destination)) (bytesOf (textFor T js row) (spanOf row .title)) o → RangeIs c d w → RangeIs a b (o ++ w ++ linkClose)
 
   -- "Each paragraph: `<p>`, content, `</p>`, LF."
   pub data ParagraphBy : List ℕ → Type 0 where
     paragraph : {w : List ℕ} → RangeIs 0 (length (q .bytes)) w → ParagraphBy (paragraphOpen ++ w ++ paragraphClose)
 
--- w is the page that these rows of the note s call for in these paragraphs, in order
-pub data ByRows (s : List ℕ) (rows : List (List ℕ)) : List Placed → List ℕ → Type 0 where
-  none : ByRows s rows [] []
-  more : {q : Placed} {ps : List Placed} {w v : List ℕ} → ParagraphBy s rows q w → ByRows s rows ps v → ByRows s rows (q ∷ ps) (w ++ v)
+-- w is the page that these rows call for in these paragraphs of the note, in order
+pub data ByRows (T : Texts) (js : List Listed) (rows : List (List ℕ)) : List Placed → List ℕ → Type 0 where
+  none : ByRows T js rows [] []
+  more : {q : Placed} {ps : List Placed} {w v : List ℕ} → ParagraphBy T js rows q w → ByRows T js rows ps v → ByRows T js rows (q ∷ ps) (w ++ v)

@@ -6,11 +6,11 @@ use lib.ListN.{getD}
 use Rattle.marking.specs.Marking.{Piece, Marking}
 use Rattle.marking.specs.Marking as kinds
 use Rattle.marking.specs.Spans.{linkSpan, LinkOf}
+use Rattle.texts.specs.Texts.{Texts}
 use Rattle.block.specs.Block.{Placed}
 use Rattle.row.specs.declared.Range.{Range}
-use Rattle.row.specs.declared.Definition.{Definition}
-use Rattle.row.specs.Row.{range}
-use Rattle.row.specs.First.{bytesOf}
+use Rattle.row.specs.Row.{range, Listed, definitionsOf}
+use Rattle.row.specs.First.{bytesOf, namedText}
 use Rattle.inline.specs.Tails.{Tail}
 use Rattle.inline.specs.Rows.{CodeText, Target, targetOf}
 use Rattle.note.specs.Note.{Marked}
@@ -18,11 +18,15 @@ use Rattle.escaping.specs.Escaping.{escaped}
 use Rattle.code.specs.Code.{CodeElement}
 use Rattle.html.specs.Tags.{LinkOpen, linkClose, paragraphOpen, paragraphClose}
 
--- a paragraph q of the note s, whose definitions are ds, with its marking m
-module _ (s : List ℕ) (ds : List Definition) (q : Placed) (m : Marking Tail) where
-  -- the places in the note of a link's destination and title: an inline link's own, a reference's those of its definition
+-- a paragraph q of the note, where js is the joined list of the texts T, with its marking m
+module _ (T : Texts) (js : List Listed) (q : Placed) (m : Marking Tail) where
+  -- the places of a link's destination and title: an inline link's own, a reference's those of its definition
   abbrev pub target : Piece → Piece → Tail → Target
-  target o c t = targetOf (q .at) ds (linkSpan o c t)
+  target o c t = targetOf (q .at) (definitionsOf js) (linkSpan o c t)
+
+  -- the text in which they lie: the note, or the one that the definition names
+  abbrev pub targetText : Piece → Piece → Tail → List ℕ
+  targetText o c t = namedText T js (target o c t .number)
 
   -- what stands on the page for the piece x
   pub data PieceIs : Piece → List ℕ → Type 0 where
@@ -35,7 +39,7 @@ module _ (s : List ℕ) (ds : List Definition) (q : Placed) (m : Marking Tail) w
     -- "Links: `<a href="D" title="T">text</a>`": for the opening bracket of a link its tag, for the closing bracket `</a>`.
     -- An absent title is the part 0, 0, so that it is empty.
     link-opening : {x c : Piece} {t : Tail} {w : List ℕ} → LinkOf m x c t
-        → LinkOpen (bytesOf s (target x c t .destination)) (bytesOf s (target x c t .title)) w → PieceIs x w
+        → LinkOpen (bytesOf (targetText x c t) (target x c t .destination)) (bytesOf (targetText x c t) (target x c t .title)) w → PieceIs x w
     link-closing : {o x : Piece} {t : Tail} → LinkOf m o x t → PieceIs x linkClose
     -- any other bracket is itself
     opening : {x : Piece} → x .kind ≡ kinds.opens → ((c : Piece) (t : Tail) → LinkOf m x c t → ⊥) → PieceIs x (91 ∷ [])
@@ -53,12 +57,12 @@ module _ (s : List ℕ) (ds : List Definition) (q : Placed) (m : Marking Tail) w
     paragraph : {w : List ℕ} → PiecesAre (m .pieces) w → ParagraphIs (paragraphOpen ++ w ++ paragraphClose)
 
 -- the paragraphs in order, with their markings
-pub data PageIn (s : List ℕ) (ds : List Definition) : List Placed → List (Marking Tail) → List ℕ → Type 0 where
-  none : PageIn s ds [] [] []
+pub data PageIn (T : Texts) (js : List Listed) : List Placed → List (Marking Tail) → List ℕ → Type 0 where
+  none : PageIn T js [] [] []
   more : {q : Placed} {ps : List Placed} {m : Marking Tail} {ms : List (Marking Tail)} {w v : List ℕ}
-      → ParagraphIs s ds q m w → PageIn s ds ps ms v → PageIn s ds (q ∷ ps) (m ∷ ms) (w ++ v)
+      → ParagraphIs T js q m w → PageIn T js ps ms v → PageIn T js (q ∷ ps) (m ∷ ms) (w ++ v)
 
--- w is the page of the note s: of its paragraphs, each with the marking that meets the conditions
-pub record PageIs (s : List ℕ) (w : List ℕ) : Type 0 where
-  pub marked : Marked s
-  pub page : PageIn s (marked .definitions) (marked .paragraphs) (marked .markings) w
+-- w is the page of the texts T: of the note's paragraphs, each with the marking that meets the conditions
+pub record PageIs (T : Texts) (w : List ℕ) : Type 0 where
+  pub marked : Marked T
+  pub page : PageIn T (marked .list) (marked .paragraphs) (marked .markings) w

@@ -1,4 +1,4 @@
--- The page of a note, from its bytes, its paragraphs and its span rows alone: over the bytes of each paragraph, by the row that stands there.
+-- The page of a note, from the two texts, the joined list, the paragraphs and the span rows alone: over the bytes of each paragraph, by the row that stands there.
 use Prim.Native.Nat.{ℕ, zero, suc, _+_, _-_}
 use mathlib.Core.Path.{_≡_}
 use mathlib.Core.Option.{Option, none, some}
@@ -6,11 +6,13 @@ use mathlib.Core.List.{List, [], _∷_, _++_, flatMap}
 use mathlib.Core.Bool.{Bool, true, false, not, _&&_}
 use lib.ListN.{getD, drop}
 use lib.Dec.{eqb}
+use Rattle.texts.specs.Texts.{Texts}
 use Rattle.block.specs.Block.{Placed}
 use Rattle.row.specs.declared.Range.{Range}
-use Rattle.row.specs.Row.{range}
-use Rattle.row.specs.First.{bytesOf}
+use Rattle.row.specs.Row.{range, Listed}
+use Rattle.row.specs.First.{bytesOf, namedText}
 use Rattle.definition.specs.Reading.{paragraphs}
+use Rattle.joined.specs.Reading.{joined}
 use Rattle.span.specs.Row.{codeSpanKind}
 use Rattle.inline.specs.Rows.{rowEnd}
 use Rattle.note.specs.Reading.{spanRows}
@@ -38,6 +40,14 @@ destination r = range (getD r 6 0) (getD r 7 0)
 
 abbrev pub title : List ℕ → Range
 title r = range (getD r 8 0) (getD r 9 0)
+
+-- the text in which the destination and the title lie
+abbrev pub targetText : Texts → List Listed → List ℕ → List ℕ
+targetText T js r = namedText T js (getD r 5 0)
+
+-- the opening tag of a link
+abbrev pub openTag : Texts → List Listed → List ℕ → List ℕ
+openTag T js r = linkOpen (bytesOf (targetText T js r) (destination r)) (bytesOf (targetText T js r) (title r))
 
 -- ---- the row that stands at a place of the note
 unfoldable pub firstRow : (List ℕ → Bool) → List (List ℕ) → Option (List ℕ)
@@ -68,15 +78,15 @@ abbrev pub unit : List ℕ → Written
 unit l = written (backslash l + 1) (escaped (getD l (backslash l) 0))
 
 -- by the code span that starts there, the link that starts there, the link whose text ends there
-unfoldable pub writtenBy : List ℕ → Option (List ℕ) → Option (List ℕ) → Option (List ℕ) → List ℕ → Written
-writtenBy s (some r) o c l = written (rowEnd r - rowStart r) (codeElement (bytesOf s (text r)))
-writtenBy s none (some r) c l = written 1 (linkOpen (bytesOf s (destination r)) (bytesOf s (title r)))
-writtenBy s none none (some r) l = written (rowEnd r - textEnd r) linkClose
-writtenBy s none none none l = unit l
+unfoldable pub writtenBy : Texts → List Listed → Option (List ℕ) → Option (List ℕ) → Option (List ℕ) → List ℕ → Written
+writtenBy T js (some r) o c l = written (rowEnd r - rowStart r) (codeElement (bytesOf (T .note) (text r)))
+writtenBy T js none (some r) c l = written 1 (openTag T js r)
+writtenBy T js none none (some r) l = written (rowEnd r - textEnd r) linkClose
+writtenBy T js none none none l = unit l
 
-module _ (s : List ℕ) (rows : List (List ℕ)) where
+module _ (T : Texts) (js : List Listed) (rows : List (List ℕ)) where
   abbrev pub writtenAt : List ℕ → ℕ → Written
-  writtenAt l at = writtenBy s (firstRow (codeStarts at) rows) (firstRow (linkStarts at) rows) (firstRow (linkCloses at) rows) l
+  writtenAt l at = writtenBy T js (firstRow (codeStarts at) rows) (firstRow (linkStarts at) rows) (firstRow (linkCloses at) rows) l
 
   -- what is left of a paragraph, from place `at` of the note on, after the next k bytes
   unfoldable pub contentFrom : ℕ → List ℕ → ℕ → List ℕ
@@ -87,15 +97,15 @@ module _ (s : List ℕ) (rows : List (List ℕ)) where
   unfoldable pub paragraphPage : Placed → List ℕ
   paragraphPage q = paragraphOpen ++ contentFrom 0 (q .bytes) (q .at) ++ paragraphClose
 
--- ---- at a place of the paragraph p, which starts at place `off` of the note s
-module _ (s : List ℕ) (rows : List (List ℕ)) (p : List ℕ) (off : ℕ) where
+-- ---- at a place of the paragraph p, which starts at place `off` of the note
+module _ (T : Texts) (js : List Listed) (rows : List (List ℕ)) (p : List ℕ) (off : ℕ) where
   -- the page of the paragraph from its place a on
   abbrev pub from : ℕ → List ℕ
-  from a = contentFrom s rows 0 (drop a p) (off + a)
+  from a = contentFrom T js rows 0 (drop a p) (off + a)
 
   -- what is written there
   abbrev pub here : ℕ → Written
-  here a = writtenAt s rows (drop a p) (off + a)
+  here a = writtenAt T js rows (drop a p) (off + a)
 
   -- no row stands there
   pub record Bare (a : ℕ) : Type 0 where
@@ -104,9 +114,9 @@ module _ (s : List ℕ) (rows : List (List ℕ)) (p : List ℕ) (off : ℕ) wher
     pub no-closing : firstRow (linkCloses (off + a)) rows ≡ none
 
 -- ---- the page
--- the page that these rows and paragraphs of the note s call for
-unfoldable pub pageBy : List ℕ → List Placed → List (List ℕ) → List ℕ
-pageBy s ps rows = flatMap (paragraphPage s rows) ps
+-- the page that these rows and paragraphs of the note call for
+unfoldable pub pageBy : Texts → List Listed → List Placed → List (List ℕ) → List ℕ
+pageBy T js ps rows = flatMap (paragraphPage T js rows) ps
 
-unfoldable pub pageOf : List ℕ → List ℕ
-pageOf s = pageBy s (paragraphs s) (spanRows s)
+unfoldable pub pageOf : Texts → List ℕ
+pageOf T = pageBy T (joined T) (paragraphs (T .note)) (spanRows T)

@@ -1,4 +1,4 @@
--- Pages by computation: the whole example of document 01, the notes of its bench, and examples of the sources.
+-- Pages by computation: the whole example of document 01, the notes of its bench, examples of the sources, and notes with a sheet.
 use Prim.Native.Nat.{ℕ}
 use Prim.Native.String.{String}
 use mathlib.Core.Path.{_≡_, refl}
@@ -6,6 +6,7 @@ use mathlib.Core.List.{List, [], _∷_, map, flatMap}
 use Rattle.scan.specs.Ascii.{ascii}
 use Rattle.scan.specs.Reading.{scan as scanBytes, run, past, leap, closingStep, closing}
 use Rattle.text.specs.Sequences.{onesFrom, leadingOnes, sequenceLength, characters}
+use Rattle.texts.specs.Texts.{Texts, texts}
 use Rattle.label.specs.Reading.{inky, fitsAfter, fits, labelEnd, unclosed, isLabel}
 use Rattle.target.specs.Reading.{spaceFrom, depthAfter, rawStep, rawRun, judged, destinationOf, closer, titleOf}
 use Rattle.matching.specs.Form.{fold}
@@ -14,6 +15,7 @@ use Rattle.marking.specs.ReadingSpans.{spans, finish, scan, scanStep, scanFound
 use Rattle.block.specs.Reading.{blankLine, lineLength, blockRest, blockLength, partLength, blockHere, blocks}
 use Rattle.row.specs.Reading.{matchFrom}
 use Rattle.definition.specs.Reading as definition
+use Rattle.joined.specs.Reading.{joined}
 use Rattle.inline.specs.ReadingPieces.{countAfter, runStep, runDone, closingRun, pieceFrom}
 use Rattle.inline.specs.ReadingTails.{closedAt, afterDestination, inlineOf, labelAfter, textTail, tailOf}
 use Rattle.note.specs.Reading.{labels, rowsIn, spanRows}
@@ -25,12 +27,17 @@ use Rattle.html.specs.Reading.{titleAttribute, linkOpen}
 use Rattle.page.specs.Reading.{firstRow, writtenBy, contentFrom, paragraphPage, pageBy, pageOf}
 
 pub record Sample : Type 0 where
-  pub note : List ℕ
+  pub texts : Texts
   pub page : List ℕ
 
+-- a note with an empty sheet, and its page
 infix 5 _⇒_
 abbrev _⇒_ : String → String → Sample
-s ⇒ w = record { note = ascii s; page = ascii w }
+s ⇒ w = record { texts = texts (ascii s) []; page = ascii w }
+
+-- with this sheet
+abbrev beside : String → Sample → Sample
+beside sheet x = record { texts = texts (x .texts .note) (ascii sheet); page = x .page }
 
 abbrev pub samples : List Sample
 samples =
@@ -72,10 +79,15 @@ samples =
     ∷ ("[foo][bar][baz]\n\n[baz]: /url" ⇒ "<p>[foo]<a href=\"/url\">bar</a></p>\n")
     ∷ ("[Foo][]\n\n[foo]: /url \"title\"" ⇒ "<p><a href=\"/url\" title=\"title\">Foo</a></p>\n")
     ∷ ("[foo][ ]\n\n[foo]: /url" ⇒ "<p><a href=\"/url\">foo</a>[ ]</p>\n")
+    -- with a sheet: destination and title from its bytes; of two equal labels the note's; an inline link's own; the sheet's paragraphs are ignored
+    ∷ beside "[max]: /q2/max \"June\"" ("Use [max]." ⇒ "<p>Use <a href=\"/q2/max\" title=\"June\">max</a>.</p>\n")
+    ∷ beside "[a]: /s 'S'\n[b]: /t 'T'"
+    ("[a] [b] [c](/i 'I')\n\n[a]: /n 'N'" ⇒ "<p><a href=\"/n\" title=\"N\">a</a> <a href=\"/t\" title=\"T\">b</a> <a href=\"/i\" title=\"I\">c</a></p>\n")
+    ∷ beside "x `y` [a]\n\n[a]: /u" ("" ⇒ "")
     ∷ []
 
 abbrev pub readOne : Sample → Sample
-readOne x = record { note = x .note; page = pageOf (x .note) }
+readOne x = record { texts = x .texts; page = pageOf (x .texts) }
 
 pub samples-hold : map readOne samples ≡ samples
 unfolding scanBytes run past leap closingStep closing onesFrom leadingOnes sequenceLength characters inky fitsAfter fits labelEnd unclosed isLabel
@@ -83,6 +95,6 @@ unfolding scanBytes run past leap closingStep closing onesFrom leadingOnes seque
     spans finish scan scanStep scanFound scanStart blankLine lineLength blockRest blockLength partLength blockHere blocks matchFrom
     definition.lineAfter definition.titleAfter definition.endingAfter definition.afterLabel definition.afterIndent definition.definitionAt definition.takingFrom definition.definitionsFrom
     definition.paragraphEnd definition.paragraphFrom definition.definitionsOf definition.paragraphOf definition.definitionsIn definition.paragraphsIn definition.definitions definition.paragraphs
-    countAfter runStep runDone closingRun pieceFrom closedAt afterDestination inlineOf labelAfter textTail tailOf labels rowsIn spanRows
+    countAfter runStep runDone closingRun pieceFrom closedAt afterDestination inlineOf labelAfter textTail tailOf joined labels rowsIn spanRows
     flatMap escaped stays hexDigit hrefByte undone margin titleAttribute linkOpen firstRow writtenBy contentFrom paragraphPage pageBy pageOf
 samples-hold = refl

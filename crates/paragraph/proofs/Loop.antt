@@ -17,6 +17,7 @@ use Rattle.marking.specs.ReadingRules.{Grammar}
 use Rattle.marking.specs.Reading.{Match, alone, paired, linked, isCode, stackBy, pieceAt, placeAfter, lastAfter, newSpans}
 use Rattle.marking.specs.ReadingSpans.{Scan, scanFound, scanStep, scanStart, finish, spans, overAt, overs, over}
 use Rattle.marking.proofs.Finish.{finish-step, finish-end, overs-step, overs-end, scan-grows, scan-within}
+use Rattle.rows.specs.Rows
 use Rattle.row.specs.declared.Definition.{Definition}
 use Rattle.span.specs.declared.Span.{Span}
 use Rattle.span.specs.Row.{wholeRows, stored}
@@ -33,7 +34,7 @@ use Rattle.paragraph.specs.declared.Tally.the-variants.{Spans}
 
 -- ---- rows stored one after the other
 pub stored-more : (s : List ℕ) (t : List ℕ) (k : ℕ) (xs ys : List Span) → storedAll s (storedAll s t k xs) (k + length xs) ys ≡ storedAll s t k (xs ++ ys)
-unfolding storedAll
+unfolding Rows.storedAll
 stored-more s t k [] ys = rw (add-zero k)
 stored-more s t k (x ∷ xs) ys =
     let e : k + length (x ∷ xs) ≡ k + 1 + length xs = omega arith in
@@ -74,7 +75,7 @@ module _ (s : List ℕ) (offset : ℕ) (p : List ℕ) (labels : List (List ℕ))
     pub line-before : Before s (w .line) (offset + w .at)
 
   pub on-start : (stack : List ℕ) → depthLimit + depthLimit ≤ length stack → offset + length p ≤ length s → (w : Walk) → w .row ≡ k → Before s (w .line) offset → On stack (afresh w) t₀
-  unfolding scanStart storedAll
+  unfolding scanStart Rows.storedAll
   on-start stack e i w q b =
       record {
         xs = [];

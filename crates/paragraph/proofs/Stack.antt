@@ -22,14 +22,10 @@ use Rattle.inline.specs.Reading.{grammar}
 use Rattle.inline.proofs.Computing.{sound}
 use Rattle.step.specs.Promise as walk
 use Rattle.step.specs.Promise.{Lined, lined, LinedPair, Steps, Closes}
-use Rattle.paragraph.specs.Promise.{openPlaces, lineBeside, Waits, opened, pushed, Brackets, matchAt}
+use Rattle.paragraph.specs.Promise.{openPlaces, lineBeside, Waits, opened, pushed, Closing, Brackets, matchAt}
 use Rattle.step.specs.declared.Walk.{Walk}
 use Rattle.inline.proofs.Pieces.{at-open, at-close}
 use Rattle.step.proofs.Step.{step-quiet, still-lined, line-known}
-
--- one less than so many, of which there is one
-pub inner : {d : ℕ} → 0 < d → d ≡ d - 1 + 1
-inner h = omega arith
 
 push : (st : List ℕ) (d a m n : ℕ) → d < length st → d < m → a ∷ reverse (take d st) ≡ reverse (take (d + 1) (set (set st d a) m n))
 push st d a m n h l = rw (take-set-le (d + 1) (set st d a) m n (omega arith), add-one d, take-suc-set st d a h, reverse-append)
@@ -124,39 +120,45 @@ module _ (s : List ℕ) (offset : ℕ) (p : List ℕ) (t : List ℕ) (w : Walk) 
       }
 
 -- ---- a `]` with the innermost `[`
-module _ (s : List ℕ) (offset : ℕ) (p : List ℕ) (t : List ℕ) (w : Walk) (stack : List ℕ) (x : Waits s offset p (wholeRows t) w stack)
-    (h : w .at < length p) (e : getD p (w .at) 0 ≡ 93) (d : ℕ) (ed : w .depth ≡ d + 1) where
+module _ (s : List ℕ) (offset : ℕ) (p : List ℕ) (t : List ℕ) (w : Walk) (stack : List ℕ) (x : Waits s offset p (wholeRows t) w stack) (c : Closing p w) where
+  abbrev inner : ℕ
+  inner = w .depth - 1
+
   abbrev top : ℕ
-  top = getD stack d 0
+  top = getD stack inner 0
 
-  -- without it
-  abbrev popped : Walk
-  popped = record { at = w .at; last = w .last; row = w .row; depth = d; line = w .line }
+  pub pair-on-top : lineBeside stack inner < 2 ^ 32 → LinedPair s offset p t w top (lineBeside stack inner)
+  pair-on-top small =
+      let l : inner < w .depth = omega (arith, c .some-open) in
+      let m = x .each inner l in
+      record {
+        pair = record { open-at = m .0; close-at = c .close-at; before = m .1; inside = c .inside };
+        some-open = c .some-open;
+        small = small;
+        is-line = λ r. x .lines-are r inner l;
+      }
 
-  pub pair-popped : lineBeside stack d < 2 ^ 32 → LinedPair s offset p t popped top (lineBeside stack d)
-  pair-popped small =
-      let m = x .each d (omega arith) in
-      record { pair = record { open-at = m .0; close-at = e; before = m .1; inside = h }; small = small; is-line = λ r. x .lines-are r d (omega arith) }
-
-  on-top : openPlaces w stack ≡ top ∷ reverse (take d stack)
-  on-top = ap (λ (n : ℕ). reverse (take n stack)) ed ∙ pop stack d (omega (arith, x .fits, x .room))
+  on-top : openPlaces w stack ≡ top ∷ reverse (take inner stack)
+  on-top =
+      let e : w .depth ≡ inner + 1 = omega (arith, c .some-open) in
+      ap (λ (n : ℕ). reverse (take n stack)) e ∙ pop stack inner (omega (arith, c .some-open, x .fits, x .room))
 
   module _ (labels : List (List ℕ)) (ds : List Definition) where
     step-grows : {u : List ℕ} {w′ : Walk} → Steps s offset p labels ds (matchAt s offset p labels ds w (openPlaces w stack)) w t w′ u → w .at < w′ .at
     unfolding scanStep scanFound
-    step-grows m = omega (arith, m .at, scan-grows (grammar p labels) (sound p labels) (record { place = w .at; stack = openPlaces w stack; last-link = w .last; spans = [] }) h)
+    step-grows m = omega (arith, m .at, scan-grows (grammar p labels) (sound p labels) (record { place = w .at; stack = openPlaces w stack; last-link = w .last; spans = [] }) (c .inside))
 
-    pairs : matchAt s offset p labels ds w (openPlaces w stack) ≡ walk.closing s offset p labels ds popped top
+    pairs : matchAt s offset p labels ds w (openPlaces w stack) ≡ walk.closing s offset p labels ds w top
     pairs =
-        ap (foundBy (λ a. grammar p labels .tailAt (grammar p labels .endAt a) (w .at)) (w .last) (openPlaces w stack)) (closes-here p (w .at) e)
+        ap (foundBy (λ a. grammar p labels .tailAt (grammar p labels .endAt a) (w .at)) (w .last) (openPlaces w stack)) (closes-here p (w .at) (c .close-at))
         ∙ ap (foundClosing (λ a. grammar p labels .tailAt (grammar p labels .endAt a) (w .at)) (w .last)) on-top
 
-    pub bracket-closes : Lined s offset w → {u : List ℕ} {w′ : Walk} → Closes s offset p labels ds top popped t w′ u → Brackets s offset p labels ds w stack t w′ stack u
-    bracket-closes l {u} {w′} c =
-        let m : Steps s offset p labels ds (matchAt s offset p labels ds w (openPlaces w stack)) w t w′ u = rw pairs (record { at = c .0 .at; last = c .0 .last; row = c .0 .row; table = c .0 .table }) in
+    pub bracket-closes : Lined s offset w → {u : List ℕ} {w′ : Walk} → Closes s offset p labels ds top w t w′ u → Brackets s offset p labels ds w stack t w′ stack u
+    bracket-closes l {u} {w′} q =
+        let m : Steps s offset p labels ds (matchAt s offset p labels ds w (openPlaces w stack)) w t w′ u = rw pairs (q .0) in
         record {
           steps = m;
-          still-open = sym (ap (stackBy (w .at) (openPlaces w stack)) (closes-here p (w .at) e) ∙ ap tail on-top ∙ ap (λ (n : ℕ). reverse (take n stack)) (sym (c .1)));
-          waits = waits-later s offset p (wholeRows t) w stack x w′ (omega (arith, c .1, ed)) (omega (arith, step-grows m)) (omega (arith, m .row));
-          counted = subst (λ (n : Line). Before s n (offset + w .at)) (sym (c .2)) (l .before);
+          still-open = sym (ap (stackBy (w .at) (openPlaces w stack)) (closes-here p (w .at) (c .close-at)) ∙ ap tail on-top ∙ ap (λ (n : ℕ). reverse (take n stack)) (sym (q .1)));
+          waits = waits-later s offset p (wholeRows t) w stack x w′ (omega (arith, q .1)) (omega (arith, step-grows m)) (omega (arith, m .row));
+          counted = subst (λ (n : Line). Before s n (offset + w .at)) (sym (q .2)) (l .before);
         }

@@ -1,5 +1,6 @@
 // The spans of one paragraph, read from left to right.
 ghost use mathlib.Core.Path.{_≡_};
+ghost use Rattle.texts.specs.Texts.{texts};
 ghost use Rattle.row.specs.First.{bytesOf};
 ghost use Rattle.row.specs.Row.{range};
 ghost use Rattle.row.specs.Reading.{Fit, definitionsFrom};
@@ -41,11 +42,12 @@ fn open_bracket(note: &[u8], start: usize, spans: &[u32], w: Walk, stack: &mut [
 }
 
 // Past the `]` at the walk's place, which closes the innermost of the brackets that are open.
-fn close_bracket(
+fn close_bracket<'a>(
     p: &[u8],
     start: usize,
-    note: &[u8],
-    definitions: &[u32],
+    note: &'a [u8],
+    sheet: &'a [u8],
+    table: &[u32],
     count: usize,
     spans: &mut [u32],
     w: Walk,
@@ -55,40 +57,40 @@ fn close_bracket(
     requires { ⌜ Closing (now p) w ⌝ }
     requires { ⌜ Waits (now note) start (now p) (wholeRows (now spans)) w (now stack) ⌝ }
     requires { ⌜ Bounds start (now p) count w ⌝ }
-    requires { ⌜ Fit (now note) (now definitions) count ⌝ }
+    requires { ⌜ Fit (texts (now note) (now sheet)) (now table) count ⌝ }
     requires { ⌜ Prepared (now p) (w .at) (now marks) ⌝ }
     requires { ⌜ Lined (now note) start w ⌝ }
-    ensures { λ r. ⌜ Brackets (now (note .entry)) start (now (p .entry)) (labelsIn (now (note .entry)) (now (definitions .entry)) count) (definitionsFrom (now (definitions .entry)) 0 count) w (now (stack .entry)) (now (spans .entry)) r (now (stack .entry)) (now (spans .exit)) ⌝ }
+    ensures { λ r. ⌜ Brackets (now (note .entry)) start (now (p .entry)) (labelsIn (texts (now (note .entry)) (now (sheet .entry))) (now (table .entry)) count) (definitionsFrom (now (table .entry)) 0 count) w (now (stack .entry)) (now (spans .entry)) r (now (stack .entry)) (now (spans .exit)) ⌝ }
     ensures { λ r. ⌜ Prepared (now (p .entry)) (r .at) (now (marks .exit)) ⌝ }
 {
     let depth = w.depth - 1;
     let opening = stack[depth] as usize;
     let line = stack[DEPTH_LIMIT + depth] as usize;
-    let mut v = w;
-    v.depth = depth;
     step::close_pair(
         p,
         start,
         note,
-        definitions,
+        sheet,
+        table,
         count,
         spans,
-        v,
+        w,
         opening,
         line,
         marks,
     )
 }
 
-// The spans of the paragraph that stands in the note from `start` to `end`: their rows go into the table from the row of `from` on,
-// as far as they fit. Definitions are the first `count` rows of their table. `stack`, `runs` and `marks` are lent to be written in: what
+// The spans of the paragraph that stands in the note from `start` to `end`: their rows go into `spans` from the row of `from` on,
+// as far as they fit. Definitions are the first `count` rows of `table`. `stack`, `runs` and `marks` are lent to be written in: what
 // they hold is of no account. One number of the last two says that nothing of this paragraph stands there yet; of the stack only
 // what has been put on it is read.
-pub fn read_paragraph(
-    note: &[u8],
+pub fn read_paragraph<'a>(
+    note: &'a [u8],
+    sheet: &'a [u8],
     start: usize,
     end: usize,
-    definitions: &[u32],
+    table: &[u32],
     count: usize,
     spans: &mut [u32],
     from: Walk,
@@ -97,16 +99,15 @@ pub fn read_paragraph(
     marks: &mut [u8],
 ) -> Tally
     requires { ⌜ Lies (now note) start end count from ⌝ }
-    requires { ⌜ Fit (now note) (now definitions) count ⌝ }
+    requires { ⌜ Fit (texts (now note) (now sheet)) (now table) count ⌝ }
     requires { ⌜ Lent (now note) (now stack) (now marks) ⌝ }
-    ensures { λ r. ⌜ Reads (now (note .entry)) start (bytesOf (now (note .entry)) (range start end)) (labelsIn (now (note .entry)) (now (definitions .entry)) count) (definitionsFrom (now (definitions .entry)) 0 count) (from .row) (now (spans .entry)) r (now (spans .exit)) ⌝ }
+    ensures { λ r. ⌜ Reads (now (note .entry)) start (bytesOf (now (note .entry)) (range start end)) (labelsIn (texts (now (note .entry)) (now (sheet .entry))) (now (table .entry)) count) (definitionsFrom (now (table .entry)) 0 count) (from .row) (now (spans .entry)) r (now (spans .exit)) ⌝ }
 {
     let p = &note[start..end];
     runs[0] = 0;
-    let size = p.len();
-    marks[size] = 0;
+    marks[p.len()] = 0;
     let mut w = step::afresh(from);
-    while w.at < size {
+    while w.at < p.len() {
         let at = w.at;
         let b = p[at];
         if b == 91 {
@@ -115,7 +116,7 @@ pub fn read_paragraph(
             }
             w = open_bracket(note, start, spans, w, stack);
         } else if (b == 93) & (0 < w.depth) {
-            w = close_bracket(p, start, note, definitions, count, spans, w, stack, marks);
+            w = close_bracket(p, start, note, sheet, table, count, spans, w, stack, marks);
         } else {
             w = step::pass_piece(p, start, note, spans, w, runs);
         }

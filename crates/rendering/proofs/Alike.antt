@@ -6,12 +6,13 @@ use mathlib.Core.Logic.{_⊎_, inl, inr}
 use mathlib.Core.List.{List}
 use lib.Dec.{ltb}
 use Rattle.scan.proofs.Test.{by}
+use Rattle.texts.specs.Texts.{Texts}
 use Rattle.notice.specs.declared.Reading.{Reading}
 use Rattle.notice.specs.declared.Reading.the-variants.{Read, Long, Bad, FewDefinitions, Deep, FewSpans}
 use Rattle.notice.specs.Answers as reader
 use Rattle.notice.specs.Reading.{definitionTableOf, spanTableOf}
 use Rattle.rendering.specs.declared.Rendering.{Rendering}
-use Rattle.rendering.specs.Answers.{numberOf, valueOf, definitionCount, spanCount}
+use Rattle.rendering.specs.Answers.{numberOf, valueOf, namedOf, definitionCount, spanCount}
 use Rattle.rendering.specs.Reading.{afterReading}
 
 abbrev ZeroOrSix : Rendering → Type 0
@@ -30,8 +31,8 @@ module _ (need room : ℕ) where
 
   by-reading : {C : Type 0} (x : Reading) → ((d n : ℕ) → x ≡ Read d n → C) → (Refused x → C) → C
   by-reading (Read d n) f g = f d n refl
-  by-reading (Long n) f g = g (record { low = omega arith; high = omega arith; number = refl; value = refl })
-  by-reading (Bad k) f g = g (record { low = omega arith; high = omega arith; number = refl; value = refl })
+  by-reading (Long y n) f g = g (record { low = omega arith; high = omega arith; number = refl; value = refl })
+  by-reading (Bad y k) f g = g (record { low = omega arith; high = omega arith; number = refl; value = refl })
   by-reading (FewDefinitions n) f g = g (record { low = omega arith; high = omega arith; number = refl; value = refl })
   by-reading (Deep k) f g = g (record { low = omega arith; high = omega arith; number = refl; value = refl })
   by-reading (FewSpans n) f g = g (record { low = omega arith; high = omega arith; number = refl; value = refl })
@@ -73,15 +74,24 @@ module _ (need room : ℕ) where
         counts {d} {n} e =
             by (ltb room need) (λ t. let q : numberOf (after x) ≡ 6 = rw (e, t) refl in absurd (omega (arith, q))) (λ f. (rw (e, f) refl, rw (e, f) refl))
 
+  -- ---- the text
+  pub same-named : (x : Reading) → namedOf (after x) ≡ reader.namedOf x
+  same-named (Read d n) = by (ltb room need) (λ q. rw q refl) (λ q. rw q refl)
+  same-named (Long y n) = refl
+  same-named (Bad y k) = refl
+  same-named (FewDefinitions n) = refl
+  same-named (Deep k) = refl
+  same-named (FewSpans n) = refl
+
   -- ---- the tables
-  pub same-definitions : (s t : List ℕ) (x : Reading) → definitionTableOf s (numberOf (after x)) t ≡ definitionTableOf s (reader.numberOf x) t
-  same-definitions s t x =
+  pub same-definitions : (T : Texts) (t : List ℕ) (x : Reading) → definitionTableOf T (numberOf (after x)) t ≡ definitionTableOf T (reader.numberOf x) t
+  same-definitions T t x =
       by-reading x (λ d n e. rw e (by (ltb room need) (λ q. rw q refl) (λ q. rw q refl))) (λ w. rw (w .number) refl)
 
-  pub same-spans : (s u : List ℕ) (x : Reading) → spanTableOf s (numberOf (after x)) u ≡ spanTableOf s (reader.numberOf x) u
-  same-spans s u (Read d n) = by (ltb room need) (λ q. rw q refl) (λ q. rw q refl)
-  same-spans s u (Long n) = refl
-  same-spans s u (Bad k) = refl
-  same-spans s u (FewDefinitions n) = refl
-  same-spans s u (Deep k) = refl
-  same-spans s u (FewSpans n) = refl
+  pub same-spans : (T : Texts) (u : List ℕ) (x : Reading) → spanTableOf T (numberOf (after x)) u ≡ spanTableOf T (reader.numberOf x) u
+  same-spans T u (Read d n) = by (ltb room need) (λ q. rw q refl) (λ q. rw q refl)
+  same-spans T u (Long y n) = refl
+  same-spans T u (Bad y k) = refl
+  same-spans T u (FewDefinitions n) = refl
+  same-spans T u (Deep k) = refl
+  same-spans T u (FewSpans n) = refl

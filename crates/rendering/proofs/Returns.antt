@@ -7,8 +7,11 @@ use mathlib.Core.List.{List, [], _++_}
 use borrow.Author.Tests.{lt-ltb, le-ltb}
 use lib.ListN.{length}
 use lib.Seq.{sets-eq}
-use Rattle.text.specs.Utf8.{noteLimit}
+use Rattle.texts.specs.Texts.{Texts}
+use Rattle.texts.specs.Answers.{GoodTexts}
 use Rattle.row.specs.Row as definitionTable
+use Rattle.row.proofs.Filled.{length-filled, entries-back}
+use Rattle.joined.specs.Reading.{joined}
 use Rattle.span.specs.Row as spanTable
 use Rattle.note.specs.Reading.{spanRows}
 use Rattle.note.proofs.EachRow.{each-row-iff}
@@ -16,13 +19,14 @@ use Rattle.buffer.specs.Stored.{Writes}
 use Rattle.buffer.proofs.Writing.{measured}
 use Rattle.page.specs.Reading.{pageOf}
 use Rattle.cursor.specs.Spanned.{Spanned}
+use Rattle.writer.specs.Pass.{Listing}
 use Rattle.notice.specs.declared.Reading.{Reading}
 use Rattle.notice.specs.declared.Reading.the-variants as reader-variants
 use Rattle.notice.specs.Answers as reader
 use Rattle.notice.specs.Reading.{definitionTableOf, spanTableOf}
 use Rattle.notice.specs.Promise.{Promise as ReaderPromise}
 use Rattle.notice.specs.Claims.{SpanRows}
-use Rattle.notice.proofs.Answers.{span-count}
+use Rattle.notice.proofs.Answers.{definition-count, span-count}
 use Rattle.notice.proofs.Promise as reader-promise
 use Rattle.notice.proofs.Standing.{rows-stand}
 use Rattle.rendering.specs.declared.Rendering.{Rendering}
@@ -34,70 +38,83 @@ use Rattle.rendering.proofs.Alike.{same-definitions, same-spans}
 use Rattle.rendering.proofs.Answers.{by-reader, promised}
 
 -- a table that holds the note's span rows is one to write the page from
-pub filled-spanned : (s u : List ℕ) {u′ : List ℕ} → length s ≤ noteLimit → SpanRows s u u′ → length u′ ≡ length u → Spanned s u′ (length (spanRows s))
-filled-spanned s u {u′} h v e =
-    let n : spanRows s ≡ v .rows = each-row-iff s (v .rows) .1 (v .each-once) in
+pub filled-spanned : (T : Texts) (u : List ℕ) {u′ : List ℕ} → GoodTexts T → SpanRows T u u′ → length u′ ≡ length u → Spanned T u′ (length (spanRows T))
+filled-spanned T u {u′} g v e =
+    let n : spanRows T ≡ v .rows = each-row-iff T (v .rows) .1 (v .each-once) in
     record {
-      short = h;
+      short = g .note .short;
+      sheet-short = g .sheet .short;
       counted = refl;
       room = rw (e, n) (v .fit);
-      rows-are = rows-stand s u v;
+      rows-are = rows-stand T u v;
     }
 
 -- the reader has answered x
-module _ (p : List ℕ) {s t u s′ t′ u′ : List ℕ} {x : Reading} (m : ReaderPromise s t u x s′ t′ u′) where
+module _ (p : List ℕ) {T : Texts} {t u : List ℕ} {T′ : Texts} {t′ u′ : List ℕ} {x : Reading} (m : ReaderPromise T t u x T′ t′ u′) where
   abbrev need : ℕ
-  need = length (pageOf s)
+  need = length (pageOf T)
 
-  kept : {r : Rendering} {p′ : List ℕ} → afterReading need (length p) x ≡ r → p′ ≡ pageBufferOf s r p → Promise s t u p r s′ t′ u′ p′
+  kept : {r : Rendering} {p′ : List ℕ} → afterReading need (length p) x ≡ r → p′ ≡ pageBufferOf T r p → Promise T t u p r T′ t′ u′ p′
   kept e q =
-      promised (sym (by-reader s (definitionTable.wholeRows t) (spanTable.wholeRows u) (length p) (sym (m .answer)) ∙ e))
-      (m .definitions ∙ sym (same-definitions need (length p) s t x) ∙ ap (λ (y : Rendering). definitionTableOf s (numberOf y) t) e)
-      (m .spans ∙ sym (same-spans need (length p) s u x) ∙ ap (λ (y : Rendering). spanTableOf s (numberOf y) u) e)
+      promised (sym (by-reader T (definitionTable.wholeRows t) (spanTable.wholeRows u) (length p) (sym (m .answer)) ∙ e))
+      (m .definitions ∙ sym (same-definitions need (length p) T t x) ∙ ap (λ (y : Rendering). definitionTableOf T (numberOf y) t) e)
+      (m .spans ∙ sym (same-spans need (length p) T u x) ∙ ap (λ (y : Rendering). spanTableOf T (numberOf y) u) e)
       q
-      (m .note)
+      (m .texts)
 
   -- ---- it has refused
-  pub too-long : {n : ℕ} → x ≡ reader-variants.Long n → Promise s t u p (Long n) s′ t′ u′ p
+  pub too-long : {y n : ℕ} → x ≡ reader-variants.Long y n → Promise T t u p (Long y n) T′ t′ u′ p
   too-long e = kept (ap (afterReading need (length p)) e) refl
 
-  pub not-good : {k : ℕ} → x ≡ reader-variants.Bad k → Promise s t u p (Bad k) s′ t′ u′ p
+  pub not-good : {y k : ℕ} → x ≡ reader-variants.Bad y k → Promise T t u p (Bad y k) T′ t′ u′ p
   not-good e = kept (ap (afterReading need (length p)) e) refl
 
-  pub too-few-definitions : {n : ℕ} → x ≡ reader-variants.FewDefinitions n → Promise s t u p (FewDefinitions n) s′ t′ u′ p
+  pub too-few-definitions : {n : ℕ} → x ≡ reader-variants.FewDefinitions n → Promise T t u p (FewDefinitions n) T′ t′ u′ p
   too-few-definitions e = kept (ap (afterReading need (length p)) e) refl
 
-  pub too-deep : {k : ℕ} → x ≡ reader-variants.Deep k → Promise s t u p (Deep k) s′ t′ u′ p
+  pub too-deep : {k : ℕ} → x ≡ reader-variants.Deep k → Promise T t u p (Deep k) T′ t′ u′ p
   too-deep e = kept (ap (afterReading need (length p)) e) refl
 
-  pub too-few-spans : {n : ℕ} → x ≡ reader-variants.FewSpans n → Promise s t u p (FewSpans n) s′ t′ u′ p
+  pub too-few-spans : {n : ℕ} → x ≡ reader-variants.FewSpans n → Promise T t u p (FewSpans n) T′ t′ u′ p
   too-few-spans e = kept (ap (afterReading need (length p)) e) refl
 
   -- ---- it has read the note
   module _ {d n : ℕ} (e : x ≡ reader-variants.Read d n) where
-    pub spanned : Spanned s u′ n
+    pub spanned : Spanned T u′ n
     spanned =
         let q = reader-promise.demand-1 m in
         let z : reader.numberOf x ≡ 0 = ap reader.numberOf e in
         let tables = reader-promise.tables-hold m in
-        let count : length (spanRows s) ≡ n = span-count s (q .spans-counted z) ∙ ap reader.spanCount e in
-        subst (Spanned s u′) count (filled-spanned s u (q .success .exactly .0 z .0 .short) (tables .success z .1) (tables .spans-size))
+        let count : length (spanRows T) ≡ n = span-count T (q .spans-counted z) ∙ ap reader.spanCount e in
+        subst (Spanned T u′) count (filled-spanned T u (q .success .exactly .0 z .0) (tables .success z .1) (tables .spans-size))
+
+    -- the definition table holds the joined list
+    pub listing : Listing T t′
+    listing =
+        let z : reader.numberOf x ≡ 0 = ap reader.numberOf e in
+        let w = reader-promise.demand-1 m .success .exactly .0 z .1 in
+        let enough : length (joined T) ≤ definitionTable.wholeRows t = omega (arith, definition-count T (w .counted), w .enough) in
+        let table : t′ ≡ definitionTable.filled T (joined T) t = m .definitions ∙ rw z refl in
+        record {
+          room = rw (table, length-filled T (joined T) t) enough;
+          rows-are = rw table (entries-back T (joined T) t enough);
+        }
 
     -- the page is measured, and nothing is stored
-    module _ {part : List ℕ} {size : ℕ} (w : Writes [] 0 (pageOf s) part size) where
+    module _ {part : List ℕ} {size : ℕ} (w : Writes [] 0 (pageOf T) part size) where
       back : part ++ p ≡ p
       back = ap (λ (l : List ℕ). l ++ p) (measured w)
 
       size-is : size ≡ need
       size-is = w .size ∙ zero-add need
 
-      pub short-page : length (part ++ p) < size → Promise s t u p (ShortPage size) s′ t′ u′ (part ++ p)
+      pub short-page : length (part ++ p) < size → Promise T t u p (ShortPage size) T′ t′ u′ (part ++ p)
       short-page h =
           let z : length p < need = omega (arith, ap length back, size-is) in
           kept (rw (e, lt-ltb (length p) need z) (ap ShortPage (sym size-is))) back
 
-      pub page-written : size ≤ length (part ++ p) → {size′ : ℕ} {p′ : List ℕ} → Writes (part ++ p) 0 (pageOf s) p′ size′ → Promise s t u p (Rendered d n size) s′ t′ u′ p′
+      pub page-written : size ≤ length (part ++ p) → {size′ : ℕ} {p′ : List ℕ} → Writes (part ++ p) 0 (pageOf T) p′ size′ → Promise T t u p (Rendered d n size) T′ t′ u′ p′
       page-written h {p′ = p′} v =
           let z : need ≤ length p = omega (arith, ap length back, size-is) in
           let y : 0 + need ≤ length p = omega arith in
-          kept (rw (e, le-ltb (length p) need z) (ap (Rendered d n) (sym size-is))) (v .stored ∙ rw back (sets-eq (pageOf s) p 0 y ∙ rw (zero-add need) refl))
+          kept (rw (e, le-ltb (length p) need z) (ap (Rendered d n) (sym size-is))) (v .stored ∙ rw back (sets-eq (pageOf T) p 0 y ∙ rw (zero-add need) refl))

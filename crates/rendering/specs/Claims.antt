@@ -1,57 +1,62 @@
--- What is claimed of the page writer's answer and of what it leaves in the tables and the page buffer, for every note and whatever is lent.
+-- What is claimed of the page writer's answer and of what it leaves in the tables and the page buffer, for every note, every sheet and whatever is lent.
 use Prim.Native.Nat.{ℕ, _≤_}
 use mathlib.Core.Path.{_≡_}
 use mathlib.Core.Logic.{_↔_, _⊎_}
 use mathlib.Core.List.{List, _++_}
 use lib.ListN.{length, take, drop}
-use Rattle.refusal.specs.Given.{Given}
+use Rattle.refusal.specs.Given.{Given, GivenFor}
 use Rattle.text.specs.Utf8.{FirstBad}
+use Rattle.texts.specs.Texts.{Texts, textOf}
+use Rattle.texts.specs.Answers.{Due1, Due2}
 use Rattle.note.specs.Note.{FirstDeep}
 use Rattle.page.specs.Page.{PageIs}
 use Rattle.page.specs.ByRows.{ByRows}
 use Rattle.notice.specs.declared.Reading.{Reading}
-use Rattle.notice.specs.Answers.{DefinitionsCounted, SpansCounted, Due1, Due2, Due3, Due4, Due5}
+use Rattle.notice.specs.Answers.{DefinitionsCounted, SpansCounted, Due3, Due4, Due5}
 use Rattle.notice.specs.Answers as reader
 use Rattle.notice.specs.Claims.{DefinitionRows, SpanRows}
 use Rattle.rendering.specs.declared.Rendering.{Rendering}
-use Rattle.rendering.specs.Answers.{numberOf, valueOf, definitionCount, spanCount, pageLength, PageMeasured, Due0, Due6, Answers}
+use Rattle.rendering.specs.Answers.{numberOf, valueOf, namedOf, definitionCount, spanCount, pageLength, PageMeasured, Due0, Due6, Answers}
 
--- Demand 1 of the answer r to the note s, where so many whole rows of each table and so many bytes are lent.
-pub record Demand1 (s : List ℕ) (definition-rows span-rows room : ℕ) (r : Rendering) : Type 0 where
-  pub line-1 : Given (numberOf r) (valueOf r) 1 (Due1 s definition-rows span-rows) (λ v. v ≡ length s)
-  pub line-2 : Given (numberOf r) (valueOf r) 2 (Due2 s definition-rows span-rows) (FirstBad s)
-  pub line-3 : Given (numberOf r) (valueOf r) 3 (Due3 s definition-rows span-rows) (DefinitionsCounted s)
-  pub line-4 : Given (numberOf r) (valueOf r) 4 (Due4 s definition-rows span-rows) (FirstDeep s)
-  pub line-5 : Given (numberOf r) (valueOf r) 5 (Due5 s definition-rows span-rows) (SpansCounted s)
-  pub line-6 : Given (numberOf r) (valueOf r) 6 (Due6 s definition-rows span-rows room) (PageMeasured s)
+-- Demand 1 of the answer r to the texts T, where so many whole rows of each table and so many bytes are lent.
+pub record Demand1 (T : Texts) (definition-rows span-rows room : ℕ) (r : Rendering) : Type 0 where
+  -- for each text: "refusals 1 and 2 are checked on the note, then both on the sheet, and say which text"
+  pub line-1 : (x : ℕ) → GivenFor (numberOf r) (namedOf r) (valueOf r) 1 x (Due1 T x) (λ v. v ≡ length (textOf T x))
+  pub line-2 : (x : ℕ) → GivenFor (numberOf r) (namedOf r) (valueOf r) 2 x (Due2 T x) (FirstBad (textOf T x))
+  pub line-3 : Given (numberOf r) (valueOf r) 3 (Due3 T definition-rows span-rows) (DefinitionsCounted T)
+  pub line-4 : Given (numberOf r) (valueOf r) 4 (Due4 T definition-rows span-rows) (FirstDeep T)
+  pub line-5 : Given (numberOf r) (valueOf r) 5 (Due5 T definition-rows span-rows) (SpansCounted T)
+  pub line-6 : Given (numberOf r) (valueOf r) 6 (Due6 T definition-rows span-rows room) (PageMeasured T)
   -- "Success is number 0 with the counts of definitions and spans, from the page writer also the HTML's length."
-  pub success : Given (numberOf r) (valueOf r) 0 (Due0 s definition-rows span-rows room) (λ v. v ≡ 0)
-  pub definitions-counted : numberOf r ≡ 0 → DefinitionsCounted s (definitionCount r)
-  pub spans-counted : numberOf r ≡ 0 → SpansCounted s (spanCount r)
-  pub page-measured : numberOf r ≡ 0 → PageMeasured s (pageLength r)
+  pub success : Given (numberOf r) (valueOf r) 0 (Due0 T definition-rows span-rows room) (λ v. v ≡ 0)
+  pub definitions-counted : numberOf r ≡ 0 → DefinitionsCounted T (definitionCount r)
+  pub spans-counted : numberOf r ≡ 0 → SpansCounted T (spanCount r)
+  pub page-measured : numberOf r ≡ 0 → PageMeasured T (pageLength r)
+  -- "an answer about neither says 0"
+  pub names-neither : (numberOf r ≡ 1 → ⊥) → (numberOf r ≡ 2 → ⊥) → namedOf r ≡ 0
   -- all of it at once
-  pub answers : (x : Rendering) → (r ≡ x) ↔ Answers s definition-rows span-rows room x
+  pub answers : (x : Rendering) → (r ≡ x) ↔ Answers T definition-rows span-rows room x
 
 -- ---- what was lent
 -- the page buffer p has become p′
-pub record PageHolds (s p p′ : List ℕ) : Type 0 where
+pub record PageHolds (T : Texts) (p p′ : List ℕ) : Type 0 where
   pub page : List ℕ
-  pub page-is : PageIs s page
+  pub page-is : PageIs T page
   pub fits : length page ≤ length p
   -- "bytes past the part in use are unchanged"
   pub holds : p′ ≡ page ++ drop (length page) p
 
 -- what the tables t and u and the page buffer p hold after the answer r
-pub record Buffers (s t u p : List ℕ) (r : Rendering) (t′ u′ p′ : List ℕ) : Type 0 where
+pub record Buffers (T : Texts) (t u p : List ℕ) (r : Rendering) (t′ u′ p′ : List ℕ) : Type 0 where
   -- "After 1, 2, 3 all lent memory is unchanged."
   pub unchanged : 1 ≤ numberOf r → numberOf r ≤ 3 → (t′ ≡ t) × (u′ ≡ u) × (p′ ≡ p)
   -- "After 4 or 5 the definition table holds its rows and the span table is unchanged."
-  pub definitions-only : 4 ≤ numberOf r → numberOf r ≤ 5 → DefinitionRows s t t′ × (u′ ≡ u) × (p′ ≡ p)
+  pub definitions-only : 4 ≤ numberOf r → numberOf r ≤ 5 → DefinitionRows T t t′ × (u′ ≡ u) × (p′ ≡ p)
   -- "After 6 both tables hold their rows and the page buffer is unchanged."
-  pub tables-only : numberOf r ≡ 6 → DefinitionRows s t t′ × SpanRows s u u′ × (p′ ≡ p)
-  pub success : numberOf r ≡ 0 → DefinitionRows s t t′ × SpanRows s u u′ × PageHolds s p p′
-  -- demand 2: "The HTML is the one that the rows call for", the rows that stand in the span table, in the note's paragraphs
-  pub by-rows : numberOf r ≡ 0 → (d : DefinitionRows s t t′) (v : SpanRows s u u′) → ByRows s (v .rows) (d .paragraphs) (take (pageLength r) p′)
+  pub tables-only : numberOf r ≡ 6 → DefinitionRows T t t′ × SpanRows T u u′ × (p′ ≡ p)
+  pub success : numberOf r ≡ 0 → DefinitionRows T t t′ × SpanRows T u u′ × PageHolds T p p′
+  -- demand 2: "The HTML is the one that the rows call for", the rows that stand in the two tables, in the note's paragraphs
+  pub by-rows : numberOf r ≡ 0 → (d : DefinitionRows T t t′) (v : SpanRows T u u′) → ByRows T (d .list) (v .rows) (d .paragraphs) (take (pageLength r) p′)
   -- nothing that was lent grows or shrinks
   pub definitions-size : length t′ ≡ length t
   pub spans-size : length u′ ≡ length u
@@ -62,6 +67,7 @@ pub record Same (r : Rendering) (t′ u′ p′ : List ℕ) (r₂ : Rendering) (
   pub answer : r ≡ r₂
   pub number : numberOf r ≡ numberOf r₂
   pub value : valueOf r ≡ valueOf r₂
+  pub named : namedOf r ≡ namedOf r₂
   pub definitions-counted : definitionCount r ≡ definitionCount r₂
   pub spans-counted : spanCount r ≡ spanCount r₂
   pub page-measured : pageLength r ≡ pageLength r₂
@@ -69,11 +75,12 @@ pub record Same (r : Rendering) (t′ u′ p′ : List ℕ) (r₂ : Rendering) (
   pub spans : u′ ≡ u₂
   pub page : p′ ≡ p₂
 
--- "the reader gives 1 to 5, the page writer 1 to 6": the page writer's answer r and tables t′ and u′ beside the reader's, x, t₂ and u₂, for the same note and tables
+-- "the reader gives 1 to 5, the page writer 1 to 6": the page writer's answer r and tables t′ and u′ beside the reader's, x, t₂ and u₂, for the same texts and tables
 pub record ReadsAlike (x : Reading) (t₂ u₂ : List ℕ) (r : Rendering) (t′ u′ : List ℕ) : Type 0 where
   -- the reader's refusals are the page writer's, and where the reader succeeds the page writer gives 0 or 6
   pub number : 1 ≤ reader.numberOf x → numberOf r ≡ reader.numberOf x
   pub value : 1 ≤ reader.numberOf x → valueOf r ≡ reader.valueOf x
+  pub named : namedOf r ≡ reader.namedOf x
   pub read : reader.numberOf x ≡ 0 → (numberOf r ≡ 0) ⊎ (numberOf r ≡ 6)
   pub definitions-counted : numberOf r ≡ 0 → definitionCount r ≡ reader.definitionCount x
   pub spans-counted : numberOf r ≡ 0 → spanCount r ≡ reader.spanCount x

@@ -4,6 +4,7 @@ use mathlib.Core.List.{List, _++_}
 use mathlib.Core.Bool.{cond}
 use lib.ListN.{length, drop}
 use lib.Dec.{eqb, ltb}
+use Rattle.texts.specs.Texts.{Texts}
 use Rattle.page.specs.Reading.{pageOf}
 use Rattle.notice.specs.declared.Reading.{Reading}
 use Rattle.notice.specs.declared.Reading.the-variants as reader
@@ -16,8 +17,8 @@ use Rattle.rendering.specs.Answers.{numberOf}
 -- a refusal of the reader; or what is said where it read so many definitions and spans
 abbrev pub readOr : (ℕ → ℕ → Rendering) → Reading → Rendering
 readOr f (reader.Read d n) = f d n
-readOr f (reader.Long n) = Long n
-readOr f (reader.Bad k) = Bad k
+readOr f (reader.Long x n) = Long x n
+readOr f (reader.Bad x k) = Bad x k
 readOr f (reader.FewDefinitions n) = FewDefinitions n
 readOr f (reader.Deep k) = Deep k
 readOr f (reader.FewSpans n) = FewSpans n
@@ -31,10 +32,10 @@ abbrev pub afterReading : ℕ → ℕ → Reading → Rendering
 afterReading need room = readOr (withPage need room)
 
 -- "The first that applies, in order 1 to 6, is the answer": where so many whole rows of each table and so many bytes are lent
-unfoldable pub renderingOf : List ℕ → ℕ → ℕ → ℕ → Rendering
-renderingOf s definition-rows span-rows room = afterReading (length (pageOf s)) room (readingOf s definition-rows span-rows)
+unfoldable pub renderingOf : Texts → ℕ → ℕ → ℕ → Rendering
+renderingOf T definition-rows span-rows room = afterReading (length (pageOf T)) room (readingOf T definition-rows span-rows)
 
 -- ---- what was lent, at exit
 -- "After 6 both tables hold their rows and the page buffer is unchanged. After every answer, .. bytes past the part in use are unchanged.": p is the page buffer at entry
-abbrev pub pageBufferOf : List ℕ → Rendering → List ℕ → List ℕ
-pageBufferOf s r p = cond (eqb (numberOf r) 0) (pageOf s ++ drop (length (pageOf s)) p) p
+abbrev pub pageBufferOf : Texts → Rendering → List ℕ → List ℕ
+pageBufferOf T r p = cond (eqb (numberOf r) 0) (pageOf T ++ drop (length (pageOf T)) p) p

@@ -22,6 +22,9 @@ use Rattle.definition.specs.Reading as definition
 use Rattle.span.specs.Row as spanTable
 use Rattle.inline.specs.ReadingPieces.{countAfter, runStep, runDone, closingRun, pieceFrom}
 use Rattle.inline.specs.ReadingTails.{closedAt, afterDestination, inlineOf, labelAfter, textTail, tailOf}
+use Rattle.texts.specs.Texts.{Texts, texts}
+use Rattle.texts.specs.Reading as both
+use Rattle.joined.specs.Reading.{joined}
 use Rattle.note.specs.Reading.{labels, rowsIn, spanRows, deepIn, firstDeep}
 use Rattle.escaping.specs.Escaping.{escaped}
 use Rattle.href.specs.Href.{stays, hexDigit, hrefByte}
@@ -31,13 +34,13 @@ use Rattle.html.specs.Reading.{titleAttribute, linkOpen}
 use Rattle.page.specs.Reading.{firstRow, writtenBy, contentFrom, paragraphPage, pageBy, pageOf}
 use Rattle.notice.specs.Reading.{readingOf, definitionTableOf, spanTableOf}
 use Rattle.rendering.specs.declared.Rendering.{Rendering}
-use Rattle.rendering.specs.declared.Rendering.the-variants.{Rendered, FewDefinitions, FewSpans, ShortPage}
+use Rattle.rendering.specs.declared.Rendering.the-variants.{Rendered, Bad, FewDefinitions, FewSpans, ShortPage}
 use Rattle.rendering.specs.Answers.{numberOf}
 use Rattle.rendering.specs.Reading.{renderingOf, pageBufferOf}
 
--- a note and what is lent; the answer, and what then stands in the tables and the page buffer
+-- the texts and what is lent; the answer, and what then stands in the tables and the page buffer
 pub record Sample : Type 0 where
-  pub note : List ℕ
+  pub texts : Texts
   pub lent-definitions : List ℕ
   pub lent-spans : List ℕ
   pub lent-page : List ℕ
@@ -51,17 +54,21 @@ abbrev old : ℕ → List ℕ
 old n = replicate n 9
 
 -- tables of a and b numbers and a page buffer of n bytes
+abbrev beside : Texts → ℕ → ℕ → ℕ → Rendering → List ℕ → List ℕ → List ℕ → Sample
+beside T a b n r t u p =
+    record { texts = T; lent-definitions = old a; lent-spans = old b; lent-page = old n; answer = r; definitions = t; spans = u; page = p }
+
+-- a note with an empty sheet
 abbrev sample : List ℕ → ℕ → ℕ → ℕ → Rendering → List ℕ → List ℕ → List ℕ → Sample
-sample s a b n r t u p =
-    record { note = s; lent-definitions = old a; lent-spans = old b; lent-page = old n; answer = r; definitions = t; spans = u; page = p }
+sample s = beside (texts s [])
 
 -- "Whole example, 34 bytes"
 abbrev example : List ℕ
 example = ascii "[max]: /q2/max \"June\"\n\nUse [max].\n"
 
--- "Definition row 1 4 7 14 16 20.", and it gains 1
+-- "Definition row 1 4 7 14 16 20.", and it gains 1, and a leading 0
 abbrev definitionRow : List ℕ
-definitionRow = 1 ∷ 4 ∷ 7 ∷ 14 ∷ 16 ∷ 20 ∷ 1 ∷ []
+definitionRow = 0 ∷ 1 ∷ 4 ∷ 7 ∷ 14 ∷ 16 ∷ 20 ∷ 1 ∷ []
 
 -- "Span row 5 27 32 28 31 1 7 14 16 20.", and it gains 3
 abbrev spanRow : List ℕ
@@ -74,38 +81,43 @@ html = ascii "<p>Use <a href=\"/q2/max\" title=\"June\">max</a>.</p>\n"
 abbrev pub samples : List Sample
 samples =
     -- exactly as much as is needed; one byte less; one byte more
-    sample example 7 11 51 (Rendered 1 1 51) definitionRow spanRow html
-    ∷ sample example 7 11 50 (ShortPage 51) definitionRow spanRow (old 50)
-    ∷ sample example 8 12 52 (Rendered 1 1 51) (definitionRow ++ 9 ∷ []) (spanRow ++ 9 ∷ []) (html ++ 9 ∷ [])
+    sample example 8 11 51 (Rendered 1 1 51) definitionRow spanRow html
+    ∷ sample example 8 11 50 (ShortPage 51) definitionRow spanRow (old 50)
+    ∷ sample example 9 12 52 (Rendered 1 1 51) (definitionRow ++ 9 ∷ []) (spanRow ++ 9 ∷ []) (html ++ 9 ∷ [])
     -- refusals 3 and 5 come before 6
-    ∷ sample example 6 10 0 (FewDefinitions 1) (old 6) (old 10) []
-    ∷ sample example 7 10 0 (FewSpans 1) definitionRow (old 10) []
-    ∷ sample example 7 11 0 (ShortPage 51) definitionRow spanRow []
+    ∷ sample example 7 10 0 (FewDefinitions 1) (old 7) (old 10) []
+    ∷ sample example 8 10 0 (FewSpans 1) definitionRow (old 10) []
+    ∷ sample example 8 11 0 (ShortPage 51) definitionRow spanRow []
     -- the empty note with an empty page
     ∷ sample [] 0 0 0 (Rendered 0 0 0) [] [] []
     ∷ sample [] 1 1 1 (Rendered 0 0 0) (old 1) (old 1) (old 1)
+    -- with the definition in the sheet: the same page
+    ∷ beside (texts (ascii "Use [max].") (ascii "[max]: /q2/max \"June\"")) 8 11 51 (Rendered 1 1 51) (1 ∷ 1 ∷ 4 ∷ 7 ∷ 14 ∷ 16 ∷ 20 ∷ 1 ∷ [])
+    (5 ∷ 4 ∷ 9 ∷ 5 ∷ 8 ∷ 1 ∷ 7 ∷ 14 ∷ 16 ∷ 20 ∷ 1 ∷ []) html
+    -- the sheet refused
+    ∷ beside (texts (ascii "a") (13 ∷ [])) 0 0 0 (Bad 1 0) [] [] []
     ∷ []
 
 abbrev answerTo : Sample → Rendering
-answerTo x = renderingOf (x .note) (definitionTable.wholeRows (x .lent-definitions)) (spanTable.wholeRows (x .lent-spans)) (length (x .lent-page))
+answerTo x = renderingOf (x .texts) (definitionTable.wholeRows (x .lent-definitions)) (spanTable.wholeRows (x .lent-spans)) (length (x .lent-page))
 
--- the same notes with what was lent, as the page writer answers
+-- the same texts with what was lent, as the page writer answers
 abbrev pub rendered : Sample → Sample
 rendered x =
     let r = answerTo x in
     record {
-      note = x .note;
+      texts = x .texts;
       lent-definitions = x .lent-definitions;
       lent-spans = x .lent-spans;
       lent-page = x .lent-page;
       answer = r;
-      definitions = definitionTableOf (x .note) (numberOf r) (x .lent-definitions);
-      spans = spanTableOf (x .note) (numberOf r) (x .lent-spans);
-      page = pageBufferOf (x .note) r (x .lent-page);
+      definitions = definitionTableOf (x .texts) (numberOf r) (x .lent-definitions);
+      spans = spanTableOf (x .texts) (numberOf r) (x .lent-spans);
+      page = pageBufferOf (x .texts) r (x .lent-page);
     }
 
 pub samples-hold : map rendered samples ≡ samples
-unfolding feeds lineOf scanBytes run past leap closingStep closing onesFrom leadingOnes sequenceLength characters table rowFor starts characterLength goodLength firstBadPast firstBad checkOf
+unfolding feeds lineOf scanBytes run past leap closingStep closing onesFrom leadingOnes sequenceLength characters table rowFor starts characterLength goodLength firstBadPast firstBad checkOf both.checkOf joined
     inky fitsAfter fits labelEnd unclosed isLabel spaceFrom depthAfter rawStep rawRun judged destinationOf closer titleOf fold spaced formOf compared equals matches
     spans overWithin overs over finish scan scanStep scanFound scanStart blankLine lineLength blockRest blockLength partLength blockHere blocks Rows.rows Rows.filled matchFrom
     definition.lineAfter definition.titleAfter definition.endingAfter definition.afterLabel definition.afterIndent definition.definitionAt definition.takingFrom definition.definitionsFrom

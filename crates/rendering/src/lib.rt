@@ -1,14 +1,16 @@
 // The page writer: a note's HTML.
 ghost use mathlib.Core.Path.{_≡_};
-ghost use Rattle.rendering.specs.Answers.{numberOf, valueOf, definitionCount, spanCount, pageLength};
+ghost use Rattle.texts.specs.Texts.{texts};
+ghost use Rattle.rendering.specs.Answers.{numberOf, valueOf, namedOf, definitionCount, spanCount, pageLength};
 ghost use Rattle.rendering.specs.Promise.{Promise};
 use notice::Reading;
 
-// What the page writer answers: the counts of definitions and spans and the HTML's length, or a refusal with its value.
+// What the page writer answers: the counts of definitions and spans and the HTML's length, or a refusal with its value; 1 and 2 with the text that they are
+// about before it.
 pub enum Rendering {
     Rendered(usize, usize, usize),
-    Long(usize),
-    Bad(usize),
+    Long(usize, usize),
+    Bad(usize, usize),
     FewDefinitions(usize),
     Deep(usize),
     FewSpans(usize),
@@ -21,8 +23,8 @@ pub fn number(r: Rendering) -> u64
 {
     match r {
         Rendering::Rendered(_, _, _) => 0,
-        Rendering::Long(_) => 1,
-        Rendering::Bad(_) => 2,
+        Rendering::Long(_, _) => 1,
+        Rendering::Bad(_, _) => 2,
         Rendering::FewDefinitions(_) => 3,
         Rendering::Deep(_) => 4,
         Rendering::FewSpans(_) => 5,
@@ -36,12 +38,27 @@ pub fn value(r: Rendering) -> u64
 {
     match r {
         Rendering::Rendered(_, _, _) => 0,
-        Rendering::Long(length) => length as u64,
-        Rendering::Bad(place) => place as u64,
+        Rendering::Long(_, length) => length as u64,
+        Rendering::Bad(_, place) => place as u64,
         Rendering::FewDefinitions(rows) => rows as u64,
         Rendering::Deep(place) => place as u64,
         Rendering::FewSpans(rows) => rows as u64,
         Rendering::ShortPage(bytes) => bytes as u64,
+    }
+}
+
+// The text that the answer is about; 0 where it is about neither.
+pub fn text(r: Rendering) -> u64
+    ensures { λ n. ⌜ n ≡ namedOf r ⌝ }
+{
+    match r {
+        Rendering::Rendered(_, _, _) => 0,
+        Rendering::Long(x, _) => x as u64,
+        Rendering::Bad(x, _) => x as u64,
+        Rendering::FewDefinitions(_) => 0,
+        Rendering::Deep(_) => 0,
+        Rendering::FewSpans(_) => 0,
+        Rendering::ShortPage(_) => 0,
     }
 }
 
@@ -51,8 +68,8 @@ pub fn definition_count(r: Rendering) -> u64
 {
     match r {
         Rendering::Rendered(definitions, _, _) => definitions as u64,
-        Rendering::Long(_) => 0,
-        Rendering::Bad(_) => 0,
+        Rendering::Long(_, _) => 0,
+        Rendering::Bad(_, _) => 0,
         Rendering::FewDefinitions(_) => 0,
         Rendering::Deep(_) => 0,
         Rendering::FewSpans(_) => 0,
@@ -66,8 +83,8 @@ pub fn span_count(r: Rendering) -> u64
 {
     match r {
         Rendering::Rendered(_, spans, _) => spans as u64,
-        Rendering::Long(_) => 0,
-        Rendering::Bad(_) => 0,
+        Rendering::Long(_, _) => 0,
+        Rendering::Bad(_, _) => 0,
         Rendering::FewDefinitions(_) => 0,
         Rendering::Deep(_) => 0,
         Rendering::FewSpans(_) => 0,
@@ -81,8 +98,8 @@ pub fn page_length(r: Rendering) -> u64
 {
     match r {
         Rendering::Rendered(_, _, length) => length as u64,
-        Rendering::Long(_) => 0,
-        Rendering::Bad(_) => 0,
+        Rendering::Long(_, _) => 0,
+        Rendering::Bad(_, _) => 0,
         Rendering::FewDefinitions(_) => 0,
         Rendering::Deep(_) => 0,
         Rendering::FewSpans(_) => 0,
@@ -90,22 +107,28 @@ pub fn page_length(r: Rendering) -> u64
     }
 }
 
-// Writes a note's page: fills the two tables and the page buffer that are lent, or refuses.
-pub fn render(note: &[u8], definitions: &mut [u32], spans: &mut [u32], page: &mut [u8]) -> Rendering
-    ensures { λ r. ⌜ Promise (now (note .entry)) (now (definitions .entry)) (now (spans .entry)) (now (page .entry)) r (now (note .exit)) (now (definitions .exit)) (now (spans .exit)) (now (page .exit)) ⌝ }
+// Writes a note's page, with the sheet beside it: fills the two tables and the page buffer that are lent, or refuses.
+pub fn render<'a>(
+    note: &'a [u8],
+    sheet: &'a [u8],
+    definitions: &mut [u32],
+    spans: &mut [u32],
+    page: &mut [u8],
+) -> Rendering
+    ensures { λ r. ⌜ Promise (texts (now (note .entry)) (now (sheet .entry))) (now (definitions .entry)) (now (spans .entry)) (now (page .entry)) r (texts (now (note .exit)) (now (sheet .exit))) (now (definitions .exit)) (now (spans .exit)) (now (page .exit)) ⌝ }
 {
-    match notice::read(note, definitions, spans) {
-        Reading::Long(n) => Rendering::Long(n),
-        Reading::Bad(k) => Rendering::Bad(k),
+    match notice::read(note, sheet, definitions, spans) {
+        Reading::Long(x, n) => Rendering::Long(x, n),
+        Reading::Bad(x, k) => Rendering::Bad(x, k),
         Reading::FewDefinitions(n) => Rendering::FewDefinitions(n),
         Reading::Deep(k) => Rendering::Deep(k),
         Reading::FewSpans(n) => Rendering::FewSpans(n),
         Reading::Read(d, n) => {
-            let need = writer::write_page(note, spans, n, &mut page[..0]);
+            let need = writer::write_page(note, sheet, definitions, spans, n, &mut page[..0]);
             if page.len() < need {
                 return Rendering::ShortPage(need);
             }
-            writer::write_page(note, spans, n, page);
+            writer::write_page(note, sheet, definitions, spans, n, page);
             Rendering::Rendered(d, n, need)
         }
     }

@@ -5,7 +5,7 @@ use notice::answer;
 use rendering::Rendering;
 ghost use Prim.Native.Nat.{_<_, _≤_};
 
-const DEFINITION_WIDTH: usize = 7;
+const DEFINITION_WIDTH: usize = 8;
 
 const SPAN_WIDTH: usize = 11;
 
@@ -25,17 +25,18 @@ pub fn number(n: u64) {
     io::print_decimal(STDOUT_FILENO, n);
 }
 
-// One line: the reader's answer's number, its value, and the two counts.
+// One line: the reader's answer's number, its value, the two counts, and the text that it names.
 pub fn reading(r: Reading) {
     text(b"answer");
     number(answer::number(r));
     number(answer::value(r));
     number(answer::definition_count(r));
     number(answer::span_count(r));
+    number(answer::text(r));
     text(b"\n");
 }
 
-// One line: the page writer's answer's number, its value, the two counts, and the HTML's length.
+// One line: the page writer's answer's number, its value, the two counts, the HTML's length, and the text that it names.
 pub fn rendering(r: Rendering) {
     text(b"rendering");
     number(rendering::number(r));
@@ -43,14 +44,16 @@ pub fn rendering(r: Rendering) {
     number(rendering::definition_count(r));
     number(rendering::span_count(r));
     number(rendering::page_length(r));
+    number(rendering::text(r));
     text(b"\n");
 }
 
-// One line: the enquiry's answer's number and its value.
-pub fn enquiry(answer: &[u64; 2]) {
+// One line: the enquiry's answer's number, its value, and the text that it names.
+pub fn enquiry(answer: &[u64; 3]) {
     text(b"enquiry");
     number(answer[0]);
     number(answer[1]);
+    number(answer[2]);
     text(b"\n");
 }
 

@@ -1,17 +1,19 @@
 -- The ways through a turn of the lookup, which keeps what the rows left give.
-use Prim.Native.Nat.{ℕ, suc, _+_, _-_, _*_, _/_, _≤_, _<_}
+use Prim.Native.Nat.{ℕ, zero, suc, _+_, _-_, _*_, _/_, _≤_, _<_}
 use native.Mathlib.Nat.{sub-zero}
 use native.Mathlib.Omega.{arith}
-use mathlib.Core.Path.{_≡_, refl, sym, ap, _∙_}
+use mathlib.Core.Path.{_≡_, refl, sym, ap, subst, _∙_}
 use mathlib.Core.List.{List, _∷_}
 use mathlib.Core.Bool.{true, false}
+use lib.ListN.{getD}
 use Rattle.scan.specs.declared.Found.{Found}
 use Rattle.scan.specs.declared.Found.the-variants.{At, Nothing}
 use Rattle.matching.specs.Reading.{matches}
+use Rattle.texts.specs.Texts.{Texts, textOf}
 use Rattle.row.specs.declared.Range.{Range}
 use Rattle.row.specs.Row.{width}
 use Rattle.row.specs.First.{bytesOf, labelsOf}
-use Rattle.row.specs.Reading.{rangeAt, definitionsFrom, matchFrom, rowOf, Within, Fit}
+use Rattle.row.specs.Reading.{rangeAt, listedFrom, labelAt, matchFrom, rowOf, Within, Fit}
 
 pub match-hit : (k : ℕ) (l : List ℕ) (ls : List (List ℕ)) (label : List ℕ) → matches l label ≡ true → matchFrom k (l ∷ ls) label ≡ At k
 unfolding matchFrom
@@ -21,10 +23,29 @@ pub match-miss : (k : ℕ) (l : List ℕ) (ls : List (List ℕ)) (label : List �
 unfolding matchFrom
 match-miss k l ls label e = rw (e, matchFrom)
 
-module _ (note t label : List ℕ) where
+-- the text with a number that is not the note's
+pub other-text : (T : Texts) (k : ℕ) → (k ≡ 0 → ⊥) → T .sheet ≡ textOf T k
+other-text T zero n = absurd (n refl)
+other-text T (suc k) n = refl
+
+-- the part r that stands as the label of the row at `at`, where the row names the note, and where it names the sheet
+module _ (T : Texts) (t : List ℕ) (at : ℕ) {r : Range} (p : r ≡ rangeAt t (at + 1)) where
+  pub in-note : Within (textOf T (getD t at 0)) (rangeAt t (at + 1)) → getD t at 0 ≡ 0 → Within (T .note) r
+  in-note w e = rw p (subst (λ (k : ℕ). Within (textOf T k) (rangeAt t (at + 1))) e w)
+
+  pub in-sheet : Within (textOf T (getD t at 0)) (rangeAt t (at + 1)) → (getD t at 0 ≡ 0 → ⊥) → Within (T .sheet) r
+  in-sheet w n = rw (other-text T (getD t at 0) n, p) w
+
+  pub of-note : getD t at 0 ≡ 0 → bytesOf (T .note) r ≡ labelAt T t at
+  of-note e = rw (e, p) refl
+
+  pub of-sheet : (getD t at 0 ≡ 0 → ⊥) → bytesOf (T .sheet) r ≡ labelAt T t at
+  of-sheet n = rw p (ap (λ (s : List ℕ). bytesOf s (rangeAt t (at + 1))) (other-text T (getD t at 0) n))
+
+module _ (T : Texts) (t label : List ℕ) where
   -- what the lookup finds in n rows from row k on
   abbrev pub rowFrom : ℕ → ℕ → Found
-  rowFrom k n = matchFrom k (labelsOf note (definitionsFrom t k n)) label
+  rowFrom k n = matchFrom k (labelsOf T (listedFrom t k n)) label
 
   -- the lookup in n rows stands at row k, which starts at place `at` of the table, and what is left gives r
   pub record Stands (n at : ℕ) (r : Found) : Type 0 where
@@ -33,7 +54,7 @@ module _ (note t label : List ℕ) where
     pub few : k ≤ n
     pub rest : rowFrom k (n - k) ≡ r
 
-  pub begins : (n : ℕ) → Stands n 0 (rowOf note t label n)
+  pub begins : (n : ℕ) → Stands n 0 (rowOf T t label n)
   unfolding rowOf
   begins n = record { k = 0; start = refl; few = omega arith; rest = rw sub-zero refl }
 
@@ -44,29 +65,30 @@ module _ (note t label : List ℕ) where
     row-here : at < n * width → inv .k < n
     row-here h = omega (arith, inv .start)
 
-    -- part is what stands there as its label
-    module _ (h : at < n * width) {part : Range} (p : part ≡ rangeAt t at) where
-      label-here : part ≡ rangeAt t (inv .k * width)
-      label-here = p ∙ ap (rangeAt t) (inv .start)
+    module _ (h : at < n * width) where
+      pub label-within : Fit T t n → Within (textOf T (getD t at 0)) (rangeAt t (at + 1))
+      label-within f = rw (inv .start) (f .labels (inv .k) (row-here h))
 
-      pub part-within : Fit note t n → Within note part
-      part-within f = rw label-here (f .labels (inv .k) (row-here h))
+      -- own is what stands there as its label
+      module _ {own : List ℕ} (p : own ≡ labelAt T t at) where
+        label-here : own ≡ labelAt T t (inv .k * width)
+        label-here = p ∙ ap (labelAt T t) (inv .start)
 
-      pub hit : matches (bytesOf note part) label ≡ true → At (at / width) ≡ r
-      unfolding definitionsFrom
-      hit e =
-          let number : at / width ≡ inv .k = omega (arith, inv .start) in
-          rw number (sym (rw (less n (inv .k) (row-here h)) (match-hit (inv .k) _ _ label (rw label-here at e))) ∙ inv .rest)
+        pub hit : matches own label ≡ true → At (at / width) ≡ r
+        unfolding listedFrom
+        hit e =
+            let number : at / width ≡ inv .k = omega (arith, inv .start) in
+            rw number (sym (rw (less n (inv .k) (row-here h)) (match-hit (inv .k) _ _ label (rw label-here at e))) ∙ inv .rest)
 
-      pub miss : matches (bytesOf note part) label ≡ false → Stands n (at + width) r
-      unfolding definitionsFrom
-      miss e = record {
-        k = inv .k + 1;
-        start = omega (arith, inv .start);
-        few = omega (arith, row-here h);
-        rest = sym (rw (less n (inv .k) (row-here h)) (match-miss (inv .k) _ _ label (rw label-here at e))) ∙ inv .rest;
-      }
+        pub miss : matches own label ≡ false → Stands n (at + width) r
+        unfolding listedFrom
+        miss e = record {
+          k = inv .k + 1;
+          start = omega (arith, inv .start);
+          few = omega (arith, row-here h);
+          rest = sym (rw (less n (inv .k) (row-here h)) (match-miss (inv .k) _ _ label (rw label-here at e))) ∙ inv .rest;
+        }
 
     pub none : n * width ≤ at → Nothing ≡ r
-    unfolding definitionsFrom matchFrom
+    unfolding listedFrom matchFrom
     none h = let z : n - inv .k ≡ 0 = omega (arith, inv .start, inv .few) in rw z at (inv .rest)

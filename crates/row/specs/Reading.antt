@@ -8,20 +8,37 @@ use Rattle.scan.specs.declared.Found.the-variants.{At, Nothing}
 use Rattle.matching.specs.Reading.{matches}
 use Rattle.row.specs.declared.Range.{Range}
 use Rattle.row.specs.declared.Definition.{Definition}
-use Rattle.row.specs.Row.{range, definition, width, wholeRows}
-use Rattle.row.specs.First.{labelsOf}
+use Rattle.texts.specs.Texts.{Texts, textOf}
+use Rattle.row.specs.Row.{range, definition, Listed, listed, definitionsOf, width, wholeRows}
+use Rattle.row.specs.First.{bytesOf, labelsOf}
 
 abbrev pub rangeAt : List ℕ → ℕ → Range
 rangeAt t at = range (getD t at 0) (getD t (at + 1) 0)
 
+-- the number of the text that row k names
+abbrev pub textAt : List ℕ → ℕ → ℕ
+textAt t k = getD t (k * width) 0
+
 -- the definition whose row is row k
 abbrev pub definitionAt : List ℕ → ℕ → Definition
-definitionAt t k = definition (rangeAt t (k * width)) (rangeAt t (k * width + 2)) (rangeAt t (k * width + 4))
+definitionAt t k = definition (rangeAt t (k * width + 1)) (rangeAt t (k * width + 3)) (rangeAt t (k * width + 5))
 
--- the definitions of n rows from row k on
-unfoldable pub definitionsFrom : List ℕ → ℕ → ℕ → List Definition
-definitionsFrom t k zero = []
-definitionsFrom t k (suc n) = definitionAt t k ∷ definitionsFrom t (k + 1) n
+-- the entry whose row is row k
+abbrev pub listedAt : List ℕ → ℕ → Listed
+listedAt t k = listed (textAt t k) (definitionAt t k)
+
+-- the entries of n rows from row k on
+unfoldable pub listedFrom : List ℕ → ℕ → ℕ → List Listed
+listedFrom t k zero = []
+listedFrom t k (suc n) = listedAt t k ∷ listedFrom t (k + 1) n
+
+-- their definitions
+abbrev pub definitionsFrom : List ℕ → ℕ → ℕ → List Definition
+definitionsFrom t k n = definitionsOf (listedFrom t k n)
+
+-- the bytes of the label of the row that starts at place `at` of the table
+abbrev pub labelAt : Texts → List ℕ → ℕ → List ℕ
+labelAt T t at = bytesOf (textOf T (getD t at 0)) (rangeAt t (at + 1))
 
 -- the first of these labels, numbered from k on, that matches
 unfoldable pub matchFrom : ℕ → List (List ℕ) → List ℕ → Found
@@ -32,15 +49,15 @@ abbrev pub firstMatch : List (List ℕ) → List ℕ → Found
 firstMatch = matchFrom 0
 
 -- the first of the table's `count` rows whose label matches
-unfoldable pub rowOf : List ℕ → List ℕ → List ℕ → ℕ → Found
-rowOf note t label count = firstMatch (labelsOf note (definitionsFrom t 0 count)) label
+unfoldable pub rowOf : Texts → List ℕ → List ℕ → ℕ → Found
+rowOf T t label count = firstMatch (labelsOf T (listedFrom t 0 count)) label
 
 -- ---- rows that can be looked up
-pub record Within (note : List ℕ) (r : Range) : Type 0 where
+pub record Within (s : List ℕ) (r : Range) : Type 0 where
   pub ordered : r .start ≤ r .end
-  pub inside : r .end ≤ length note
+  pub inside : r .end ≤ length s
 
--- `count` rows are in the table, and each one's label lies within the note
-pub record Fit (note t : List ℕ) (count : ℕ) : Type 0 where
+-- `count` rows are in the table, and each one's label lies within the text that it names
+pub record Fit (T : Texts) (t : List ℕ) (count : ℕ) : Type 0 where
   pub room : count ≤ wholeRows t
-  pub labels : (k : ℕ) → k < count → Within note (definitionAt t k .label)
+  pub labels : (k : ℕ) → k < count → Within (textOf T (textAt t k)) (definitionAt t k .label)

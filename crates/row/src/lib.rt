@@ -1,12 +1,13 @@
-// The definition table: rows of seven 32-bit numbers in a lent slice, and the lookup of a label in it.
+// The definition table: rows of eight 32-bit numbers in a lent slice, and the lookup of a label in it.
 ghost use mathlib.Core.Path.{_≡_};
 ghost use Prim.Native.Nat.{_+_, _<_, _^_};
-ghost use lib.ListN.{length};
+ghost use lib.ListN.{length, getD};
+ghost use Rattle.texts.specs.Texts.{texts, textOf};
 ghost use Rattle.row.specs.Row.{range, absent, definition, SmallPart, Small, wholeRows, storedRange, storedOn};
-ghost use Rattle.row.specs.Reading.{rangeAt, definitionAt, Fit, rowOf};
+ghost use Rattle.row.specs.Reading.{rangeAt, textAt, definitionAt, labelAt, Within, Fit, rowOf};
 use scan::Found;
 
-// A part of the note: where it starts, and where it ends. An absent part is 0 and 0.
+// A part of a text: where it starts, and where it ends. An absent part is 0 and 0.
 pub struct Range {
     pub start: usize,
     pub end: usize,
@@ -35,7 +36,7 @@ impl Range {
 
 impl Definition {
     // The numbers of a row.
-    pub const WIDTH: usize = 7;
+    pub const WIDTH: usize = 8;
 
     pub fn new(label: Range, destination: Range, title: Range) -> Definition
         ensures { λ r. ⌜ r ≡ definition label destination title ⌝ }
@@ -65,18 +66,20 @@ pub fn store_range(table: &mut [u32], at: usize, r: Range)
     table[at + 1] = r.end as u32;
 }
 
-// Stores the row of a definition on this line as row `k` if it fits, and else leaves the table as it was.
-pub fn store(table: &mut [u32], k: usize, d: Definition, line: usize)
+// Stores the row of a definition of this text on this line as row `k` if it fits, and else leaves the table as it was.
+pub fn store(table: &mut [u32], k: usize, text: usize, d: Definition, line: usize)
+    requires { ⌜ text < 2 ^ 32 ⌝ }
     requires { ⌜ Small d ⌝ }
     requires { ⌜ line < 2 ^ 32 ⌝ }
-    ensures { λ _. ⌜ now (table .exit) ≡ storedOn line (now (table .entry)) k d ⌝ }
+    ensures { λ _. ⌜ now (table .exit) ≡ storedOn text line (now (table .entry)) k d ⌝ }
 {
     if k < whole_rows(table) {
         let at = k * Definition::WIDTH;
-        store_range(table, at, d.label);
-        store_range(table, at + 2, d.destination);
-        store_range(table, at + 4, d.title);
-        table[at + 6] = line as u32;
+        table[at] = text as u32;
+        store_range(table, at + 1, d.label);
+        store_range(table, at + 3, d.destination);
+        store_range(table, at + 5, d.title);
+        table[at + 7] = line as u32;
     }
 }
 
@@ -97,9 +100,9 @@ pub fn definition_at(table: &[u32], k: usize) -> Definition
     ensures { λ r. ⌜ r ≡ definitionAt (now (table .entry)) k ⌝ }
 {
     let at = k * Definition::WIDTH;
-    let label = range_at(table, at);
-    let destination = range_at(table, at + 2);
-    let title = range_at(table, at + 4);
+    let label = range_at(table, at + 1);
+    let destination = range_at(table, at + 3);
+    let title = range_at(table, at + 5);
     Definition {
         label,
         destination,
@@ -107,20 +110,40 @@ pub fn definition_at(table: &[u32], k: usize) -> Definition
     }
 }
 
-// The first of `count` rows whose label equals `label`. Rows are passed by where they start, so that no row is numbered but the one found.
-pub fn lookup(note: &[u8], table: &[u32], count: usize, label: &[u8]) -> Found
-    requires { ⌜ Fit (now note) (now table) count ⌝ }
-    ensures { λ r. ⌜ r ≡ rowOf (now (note .entry)) (now (table .entry)) (now (label .entry)) count ⌝ }
+// The number of the text that row `k` names.
+pub fn text_at(table: &[u32], k: usize) -> usize
+    requires { ⌜ k < wholeRows (now table) ⌝ }
+    ensures { λ r. ⌜ r ≡ textAt (now (table .entry)) k ⌝ }
+{
+    table[k * Definition::WIDTH] as usize
+}
+
+// The label of the row that starts at `at`, from the text that the row names.
+fn label_at<'a>(note: &'a [u8], sheet: &'a [u8], table: &[u32], at: usize) -> &'a [u8]
+    requires { ⌜ at + 2 < length (now table) ⌝ }
+    requires { ⌜ Within (textOf (texts (now note) (now sheet)) (getD (now table) at 0)) (rangeAt (now table) (at + 1)) ⌝ }
+    ensures { λ r. ⌜ now r ≡ labelAt (texts (now (note .entry)) (now (sheet .entry))) (now (table .entry)) at ⌝ }
+{
+    let Range { start, end } = range_at(table, at + 1);
+    if table[at] as usize == texts::NOTE {
+        return &note[start..end];
+    }
+    &sheet[start..end]
+}
+
+// The first of `n` rows whose label equals `label`. Rows are passed by where they start, so that no row is numbered but the one found.
+pub fn lookup<'a>(note: &'a [u8], sheet: &'a [u8], table: &[u32], n: usize, label: &[u8]) -> Found
+    requires { ⌜ Fit (texts (now note) (now sheet)) (now table) n ⌝ }
+    ensures { λ r. ⌜ r ≡ rowOf (texts (now (note .entry)) (now (sheet .entry))) (now (table .entry)) (now (label .entry)) n ⌝ }
 {
     let first = scan::peek(label, 0);
-    let size = count * Definition::WIDTH;
+    let size = n * Definition::WIDTH;
     let mut at = 0;
     'rows: loop {
         if size <= at {
             break Found::Nothing;
         }
-        let Range { start, end } = range_at(table, at);
-        let own = &note[start..end];
+        let own = label_at(note, sheet, table, at);
         if matching::are_unlike(scan::peek(own, 0), first) {
             at += Definition::WIDTH;
             continue 'rows;

@@ -9,7 +9,7 @@ use lib.Dec.{ltb}
 use lib.ListN.{length, take, drop, length-append, length-take, length-drop}
 use lib.Seq.{take-all, take-nil, take-at, take-append-le, drop-append-add, drop-drop}
 use Rattle.scan.proofs.Test.{by}
-use Rattle.rows.specs.Rows.{rows, wholeRows, filled, stored}
+use Rattle.rows.specs.Rows.{rows, wholeRows, filled, stored, storedAll}
 use Rattle.rows.proofs.Put.{no-row, row-put}
 
 -- as many rows as there are whole ones lie within the table
@@ -77,8 +77,17 @@ module _ {A : Type 0} (width : ℕ) (numbers : A → List ℕ) (wide : (x : A) �
   next-over xs x t h =
       sym (no-row width numbers (filled width numbers xs t) (length xs) x (rw (length-filled xs t) h)) ∙ rw (take-append-le (wholeRows width t) xs (x ∷ []) h)
 
-  -- a value more, stored xs the next row
+  -- a value more, stored as the next row
   pub store-next : (xs : List A) (x : A) (t₀ : List ℕ) {t : List ℕ} {k : ℕ} → t ≡ filled width numbers xs t₀ → k ≡ length xs → stored width numbers t k x ≡ filled width numbers (xs ++ x ∷ []) t₀
   store-next xs x t₀ et ek =
       rw (et, ek)
       (by (ltb (length xs) (wholeRows width t₀)) (λ e. next-fits xs x t₀ (ltb-true _ _ e)) (λ e. next-over xs x t₀ (ltb-false _ _ e)))
+
+  -- the others after those that fill the table
+  pub store-all : (t₀ : List ℕ) (passed xs : List A) {t : List ℕ} {k : ℕ} → t ≡ filled width numbers passed t₀ → k ≡ length passed
+      → storedAll width numbers t k xs ≡ filled width numbers (passed ++ xs) t₀
+  unfolding storedAll
+  store-all t₀ passed [] et ek = et ∙ sym (ap (λ (l : List A). filled width numbers l t₀) (append-nil passed))
+  store-all t₀ passed (x ∷ xs) et ek =
+      store-all t₀ (passed ++ x ∷ []) xs (store-next passed x t₀ et ek) (omega (arith, ek, length-append passed (x ∷ [])))
+      ∙ ap (λ (l : List A). filled width numbers l t₀) (append-assoc passed (x ∷ []) xs)

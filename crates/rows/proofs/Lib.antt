@@ -1,3 +1,4 @@
 pub mod Put
 pub mod Filled
+pub mod Storing
 pub mod Standing

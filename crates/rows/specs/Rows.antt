@@ -27,3 +27,8 @@ module _ {A : Type 0} (width : ℕ) (numbers : A → List ℕ) where
   -- the table t with the row of x as row k, if there is one
   unfoldable pub stored : List ℕ → ℕ → A → List ℕ
   stored t k x = cond (ltb k (wholeRows width t)) (put t (k * width) (numbers x)) t
+
+  -- the table t with these rows from row k on, as far as they fit
+  unfoldable pub storedAll : List ℕ → ℕ → List A → List ℕ
+  storedAll t k [] = t
+  storedAll t k (x ∷ xs) = storedAll (stored t k x) (k + 1) xs

@@ -9,10 +9,10 @@ ghost use mathlib.Core.Path.{_≡_};
 ghost use lib.ListN.{length};
 ghost use Rattle.container.specs.Container.{Lendable, Framed};
 
-// What each lent number holds before a call: no place, kind or definition number of a note.
+// What each lent number holds before a call: no text, place, kind, definition number or line.
 const GUARD: u32 = 99999;
 
-// What each lent byte of the page holds before the call: no byte of a note or a page.
+// What each lent byte of the page holds before the call: no byte of a good text or of a page.
 const PAGE_GUARD: u8 = 13;
 
 // The most that a case can lend: numbers of each table, bytes of the page.
@@ -41,20 +41,20 @@ fn page_buffer() -> [u8; PAGE_ROOM]
     [PAGE_GUARD; PAGE_ROOM]
 }
 
-// Runs the reader on the note with as much lent as `sizes` says, and prints what it answers and the tables that it leaves.
-fn show_reading(note: &[u8], sizes: Sizes)
+// Runs the reader on the note and the sheet with as much lent as `sizes` says, and prints what it answers and the tables that it leaves.
+fn show_reading<'a>(note: &'a [u8], sheet: &'a [u8], sizes: Sizes)
     requires { ⌜ Lendable sizes ⌝ }
 {
     let mut definition_room = definition_table();
     let mut span_room = span_table();
     let definitions = &mut definition_room[..sizes.definitions];
     let spans = &mut span_room[..sizes.spans];
-    report::reading(notice::read(note, definitions, spans));
+    report::reading(notice::read(note, sheet, definitions, spans));
     report::tables(definitions, spans);
 }
 
 // Runs the page writer likewise, and prints what it answers and the tables and the page that it leaves.
-fn show_rendering(note: &[u8], sizes: Sizes)
+fn show_rendering<'a>(note: &'a [u8], sheet: &'a [u8], sizes: Sizes)
     requires { ⌜ Lendable sizes ⌝ }
 {
     let mut definition_room = definition_table();
@@ -63,15 +63,15 @@ fn show_rendering(note: &[u8], sizes: Sizes)
     let definitions = &mut definition_room[..sizes.definitions];
     let spans = &mut span_room[..sizes.spans];
     let page = &mut page_room[..sizes.page];
-    report::rendering(rendering::render(note, definitions, spans, page));
+    report::rendering(rendering::render(note, sheet, definitions, spans, page));
     report::tables(definitions, spans);
     report::line(page);
 }
 
 // Runs the enquiry, and prints what it answers and the part that it hands back.
-fn show_enquiry(note: &[u8], label: &[u8]) {
-    let mut answer: [u64; 2] = [0; 2];
-    let part = enquiry::resolve(note, label, &mut answer);
+fn show_enquiry<'a>(note: &'a [u8], sheet: &'a [u8], label: &[u8]) {
+    let mut answer: [u64; 3] = [0; 3];
+    let part = enquiry::resolve(note, sheet, label, &mut answer);
     report::enquiry(&answer);
     report::line(part);
 }
@@ -87,22 +87,25 @@ fn stop() -> bool {
     false
 }
 
-// Runs the four entries on the note and the label that stand in `lines`, each with a line end after it.
+// Runs the four entries on the note, the sheet and the label that stand in `lines`, each with a line end after it.
 fn run_lines(lines: &[u8], sizes: Sizes) -> bool
     requires { ⌜ Lendable sizes ⌝ }
     requires { ⌜ Framed (length (now lines)) sizes ⌝ }
 {
     let length = sizes.note;
-    let start = length + 1;
+    let beside = length + 1;
+    let beside_end = beside + sizes.sheet;
+    let start = beside_end + 1;
     let end = start + sizes.label;
-    if (lines[length] != b'\n') | (lines[end] != b'\n') {
+    if (lines[length] != b'\n') | (lines[beside_end] != b'\n') | (lines[end] != b'\n') {
         return stop();
     }
     let note = &lines[..length];
-    show_reading(note, sizes);
-    show_rendering(note, sizes);
+    let sheet = &lines[beside..beside_end];
+    show_reading(note, sheet, sizes);
+    show_rendering(note, sheet, sizes);
     let label = &lines[start..end];
-    show_enquiry(note, label);
+    show_enquiry(note, sheet, label);
     show_comparison(note, label);
     true
 }
@@ -118,14 +121,28 @@ fn read_lines(lines: &mut [u8], sizes: Sizes) -> bool
     run_lines(lines, sizes)
 }
 
-// Runs the next note and label, if there is room for them and for what is to be lent.
-fn run_sizes(room: &mut [u8], sizes: Sizes) -> bool {
+// Runs the next note, sheet and label, if there is room for them.
+fn run_texts(room: &mut [u8], sizes: Sizes) -> bool
+    requires { ⌜ Lendable sizes ⌝ }
+{
     if sizes.note >= room.len() {
         return stop();
     }
-    if sizes.label >= room.len() - sizes.note - 1 {
+    let after_note = room.len() - sizes.note - 1;
+    if sizes.sheet >= after_note {
         return stop();
     }
+    if sizes.label >= after_note - sizes.sheet - 1 {
+        return stop();
+    }
+    read_lines(
+        &mut room[..sizes.note + sizes.sheet + sizes.label + 3],
+        sizes,
+    )
+}
+
+// Runs the next case, if there is room for what is to be lent.
+fn run_sizes(room: &mut [u8], sizes: Sizes) -> bool {
     if sizes.definitions > DEFINITION_ROOM {
         return stop();
     }
@@ -135,7 +152,7 @@ fn run_sizes(room: &mut [u8], sizes: Sizes) -> bool {
     if sizes.page > PAGE_ROOM {
         return stop();
     }
-    read_lines(&mut room[..sizes.note + sizes.label + 2], sizes)
+    run_texts(room, sizes)
 }
 
 // Runs the next case, if there is one, and answers whether to go on.

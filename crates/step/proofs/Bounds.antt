@@ -12,11 +12,12 @@ use Rattle.scan.specs.declared.Found.{Found}
 use Rattle.scan.specs.declared.Found.the-variants.{At, Nothing}
 use Rattle.label.specs.Reading.{isLabel}
 use Rattle.marking.specs.Marking.{role, Piece}
+use Rattle.texts.specs.Texts.{Texts, textOf}
 use Rattle.row.specs.declared.Range.{Range}
 use Rattle.row.specs.declared.Definition.{Definition}
 use Rattle.row.specs.Row.{SmallPart, wholeRows}
 use Rattle.row.specs.First.{bytesOf}
-use Rattle.row.specs.Reading.{definitionsFrom, firstMatch, Fit}
+use Rattle.row.specs.Reading.{listedFrom, definitionsFrom, firstMatch, Fit}
 use Rattle.row.proofs.First.{first-equal}
 use Rattle.span.specs.Row.{Small}
 use Rattle.inline.specs.Tails.{Tail, inline, full, collapsed, shortcut, lengthOf}
@@ -96,13 +97,13 @@ unfolding tailOf
 tail-bounded labels text s at t e = subst (Bounded? (length labels) (at + length s)) e (tail-in labels text s at (inlineOf s) refl)
 
 -- ---- the row
-length-definitions : (t : List ℕ) (k n : ℕ) → length (definitionsFrom t k n) ≡ n
-unfolding definitionsFrom
-length-definitions t k zero = refl
-length-definitions t k (suc n) = ap suc (length-definitions t (k + 1) n)
+length-listed : (t : List ℕ) (k n : ℕ) → length (listedFrom t k n) ≡ n
+unfolding listedFrom
+length-listed t k zero = refl
+length-listed t k (suc n) = ap suc (length-listed t (k + 1) n)
 
-pub length-labels : (note t : List ℕ) (count : ℕ) → length (labelsIn note t count) ≡ count
-length-labels note t count = length-map (definitionsFrom t 0 count) (λ d. bytesOf note (d .label)) ∙ length-definitions t 0 count
+pub length-labels : (T : Texts) (t : List ℕ) (count : ℕ) → length (labelsIn T t count) ≡ count
+length-labels T t count = length-map (listedFrom t 0 count) (λ j. bytesOf (textOf T (j .text)) (j .definition .label)) ∙ length-listed t 0 count
 
 module _ (start n : ℕ) (h : start + n < 2 ^ 32) where
   part-small : (r : Option Range) → PartTo n r → SmallPart (fromNote? start r)
@@ -162,26 +163,25 @@ names-by count table n at size (ways.Shortcut k) b h = (b, h)
 
 -- ---- at a pair with a tail
 -- what follows the closing bracket at place c is the part of p from place c + 1 to its end
-tail-here : (p : List ℕ) (labels : List (List ℕ)) (o c : ℕ) → tailOf labels (take (c - o) (drop o p)) (take (length p - (c + 1)) (drop (c + 1) p)) (c + 1) ≡ tailAt p labels o c
+pub tail-here : (p : List ℕ) (labels : List (List ℕ)) (o c : ℕ) → tailOf labels (take (c - o) (drop o p)) (take (length p - (c + 1)) (drop (c + 1) p)) (c + 1) ≡ tailAt p labels o c
 tail-here p labels o c = ap (λ (l : List ℕ). tailOf labels (take (c - o) (drop o p)) l (c + 1)) (part-whole p (c + 1))
 
--- so what the tail reader answered, r, is the tail of the pair
-pub tail-told : (p : List ℕ) (labels : List (List ℕ)) (o c : ℕ) {r x : Ending} → r ≡ x
-    → ((at : ℕ) → shown? at r ≡ tailOf labels (take (c - o) (drop o p)) (take (length p - (c + 1)) (drop (c + 1) p)) at) → shown? (c + 1) x ≡ tailAt p labels o c
-tail-told p labels o c e told = sym (ap (shown? (c + 1)) e) ∙ told (c + 1) ∙ tail-here p labels o c
+-- what the tail reader answered, r, is x
+pub told-of : (at : ℕ) {r x : Ending} {y : Option Tail} → r ≡ x → shown? at r ≡ y → shown? at x ≡ y
+told-of at e told = sym (ap (shown? at) e) ∙ told
 
-module _ (p note table : List ℕ) (start count o : ℕ) (w : Walk) (pair : Pair p w o) (bounds : Bounds start p count w) (fit : Fit note table count) (t : ReadTail)
-    (e : some (shown (w .at + 1) t) ≡ tailAt p (labelsIn note table count) (o + 1) (w .at)) where
+module _ (p : List ℕ) (T : Texts) (table : List ℕ) (start count o : ℕ) (w : Walk) (pair : Pair p o (w .at)) (bounds : Bounds start p count w) (fit : Fit T table count) (t : ReadTail)
+    (e : some (shown (w .at + 1) t) ≡ tailAt p (labelsIn T table count) (o + 1) (w .at)) where
   bounded : Bounded count (length p) (shown (w .at + 1) t)
   bounded =
       let n : w .at + 1 + length (drop (w .at + 1) p) ≡ length p = rw length-drop (omega (arith, pair .inside)) in
-      rw (← n, ← length-labels note table count)
-      (tail-bounded (labelsIn note table count) (take (w .at - (o + 1)) (drop (o + 1) p)) (drop (w .at + 1) p) (w .at + 1) (shown (w .at + 1) t) (sym e))
+      rw (← n, ← length-labels T table count)
+      (tail-bounded (labelsIn T table count) (take (w .at - (o + 1)) (drop (o + 1) p)) (drop (w .at + 1) p) (w .at + 1) (shown (w .at + 1) t) (sym e))
 
   pub tail-end : w .at + 1 + lengthOf (shown (w .at + 1) t) ≤ length p
   tail-end =
       let q = at-close p (w .at) (pair .close-at) in
-      rw q at (tail-within p (labelsIn note table count) (o + 1) (w .at) (shown (w .at + 1) t) (pair .inside) (ap (λ (x : Piece). role (x .kind)) q) (sym e))
+      rw q at (tail-within p (labelsIn T table count) (o + 1) (w .at) (shown (w .at + 1) t) (pair .inside) (ap (λ (x : Piece). role (x .kind)) q) (sym e))
 
   pub row-names : Names count table (t .way)
   row-names = names-by count table (length p) (w .at + 1) (t .length) (t .way) bounded (fit .room)

@@ -15,6 +15,7 @@ use Rattle.line.specs.Line.{lineOf}
 use Rattle.line.specs.Promise.{lineIf, Before}
 use Rattle.line.specs.declared.Line.{Line}
 use Rattle.line.proofs.Lines.{counted-on, number-there}
+use Rattle.rows.specs.Rows
 use Rattle.row.specs.declared.Definition.{Definition}
 use Rattle.span.specs.declared.Span.{Span}
 use Rattle.span.specs.Row.{wholeRows, storedOn, stored}
@@ -24,7 +25,6 @@ use Rattle.inline.specs.ReadingPieces.{piece, pieceFrom}
 use Rattle.inline.specs.Reading.{grammar, tailAt}
 use Rattle.inline.specs.ReadingRows.{rowFor}
 use Rattle.link.specs.Reading.{linkRow}
-use Rattle.step.specs.Reading.{storedAll}
 use Rattle.step.specs.Promise.{Lined, fits, lined, spansAt, Steps, closing}
 use Rattle.step.specs.declared.Walk.{Walk}
 use Rattle.inline.proofs.Pieces.{at-open, at-close}
@@ -39,7 +39,7 @@ module _ (s : List ℕ) (offset : ℕ) (p : List ℕ) (labels : List (List ℕ))
 
   -- ---- a piece in no pair
   pub step-quiet : (q : Piece) → pieceFrom p (v .at) ≡ q → isCode (q .kind) ≡ false → Passed alone (q .end) (v .last) (v .row) t
-  unfolding storedAll
+  unfolding Rows.storedAll
   step-quiet q e k depth line =
       let z : spansAt s offset p labels ds (v .at) alone ≡ [] =
       ap (λ (x : Piece). cond (isCode (x .kind)) (codeSpans (pieceAt (grammar p labels) (v .at))) []) e
@@ -48,7 +48,7 @@ module _ (s : List ℕ) (offset : ℕ) (p : List ℕ) (labels : List (List ℕ))
 
   pub step-code : (e : ℕ) → pieceFrom p (v .at) ≡ piece code (v .at) e → {r : Span} {u : List ℕ} → r ≡ rowFor offset p ds (marked.codeSpan (piece code (v .at) e))
       → u ≡ stored s t (v .row) r → Passed alone e (v .last) (v .row + 1) u
-  unfolding storedAll
+  unfolding Rows.storedAll
   step-code e q er eu depth line =
       let z : spansAt s offset p labels ds (v .at) alone ≡ marked.codeSpan (piece code (v .at) e) ∷ [] =
       ap (λ (x : Piece). cond (isCode (x .kind)) (codeSpans (piece (x .kind) (v .at) (x .end))) []) q in
@@ -65,7 +65,7 @@ module _ (s : List ℕ) (offset : ℕ) (p : List ℕ) (labels : List (List ℕ))
         ∙ ap (λ (y : Option Tail). cond b (paired o) (withTail o y)) (tail-here ∙ ex)
 
     paired-step : (f : Match Tail) → f ≡ paired o → Passed f (v .at + 1) (v .last) (v .row) t
-    unfolding storedAll
+    unfolding Rows.storedAll
     paired-step f e depth line =
         rw e (record { at = ap (λ (x : Piece). x .end) (sym (at-close p (v .at) hc)); last = refl; row = omega arith; table = refl })
 
@@ -78,7 +78,7 @@ module _ (s : List ℕ) (offset : ℕ) (p : List ℕ) (labels : List (List ℕ))
 
     linked-step : (f : Match Tail) (x : Tail) → f ≡ linked o x → {n : ℕ} {r : Span} {u : List ℕ} → n ≡ lengthOf x → r ≡ linkRow offset ds o (v .at) x
         → u ≡ stored s t (v .row) r → Passed f (v .at + 1 + n) o (v .row + 1) u
-    unfolding storedAll
+    unfolding Rows.storedAll
     linked-step f x e en er eu depth line =
         rw e
         (record {

@@ -1,5 +1,5 @@
 -- One step of the code through a paragraph, past one piece.
-use Prim.Native.Nat.{ℕ, _+_, _<_, _^_}
+use Prim.Native.Nat.{ℕ, _+_, _-_, _<_, _^_}
 use mathlib.Core.Path.{_≡_}
 use mathlib.Core.List.{List, [], _∷_, map}
 use mathlib.Core.Bool.{Bool}
@@ -38,16 +38,17 @@ fits t w = ltb (w .row) (wholeRows t)
 abbrev pub lined : List ℕ → ℕ → List ℕ → Walk → Walk
 lined s offset t w = record { at = w .at; last = w .last; row = w .row; depth = w .depth; line = lineIf (fits t w) s (w .line) (offset + w .at) }
 
--- a `[` at place o and a `]` at the walk's place
-pub record Pair (p : List ℕ) (w : Walk) (o : ℕ) : Type 0 where
+-- a `[` at place o and a `]` at place c
+pub record Pair (p : List ℕ) (o c : ℕ) : Type 0 where
   pub open-at : getD p o 0 ≡ 91
-  pub close-at : getD p (w .at) 0 ≡ 93
-  pub before : o < w .at
-  pub inside : w .at < length p
+  pub close-at : getD p c 0 ≡ 93
+  pub before : o < c
+  pub inside : c < length p
 
--- and the 32-bit number `line`, which is the line of the `[` if a row more can be stored
+-- a pair that closes at the walk's place, whose `[` is open, and the 32-bit number `line`, which is its line if a row more can be stored
 pub record LinedPair (s : List ℕ) (offset : ℕ) (p t : List ℕ) (w : Walk) (o line : ℕ) : Type 0 where
-  pub pair : Pair p w o
+  pub pair : Pair p o (w .at)
+  pub some-open : 0 < w .depth
   pub small : line < 2 ^ 32
   pub is-line : w .row < wholeRows t → line ≡ lineOf s (offset + o)
 
@@ -77,9 +78,9 @@ module _ (s : List ℕ) (offset : ℕ) (p : List ℕ) (labels : List (List ℕ))
   abbrev pub closing : Walk → ℕ → Match Tail
   closing v o = foundClosing (λ a. grammar p labels .tailAt (grammar p labels .endAt a) (v .at)) (v .last) (o ∷ [])
 
-  -- past a `]` that closes a pair, where v counts its `[` no longer as open
+  -- past a `]` that closes a pair, whose `[` is then no longer open
   abbrev pub Closes : ℕ → Walk → List ℕ → Walk → List ℕ → Type 0
-  Closes o v t w u = Steps (closing v o) v t w u × (w .depth ≡ v .depth) × (w .line ≡ v .line)
+  Closes o v t w u = Steps (closing v o) v t w u × (w .depth ≡ v .depth - 1) × (w .line ≡ v .line)
 
 -- past a piece that is in no pair, whatever the definitions are
 abbrev pub Passes : List ℕ → ℕ → List ℕ → Walk → List ℕ → Walk → List ℕ → Type 0

@@ -1,10 +1,11 @@
 -- A paragraph's spans, and a table in which their rows are stored as far as they fit.
-use Prim.Native.Nat.{ℕ, _+_}
-use mathlib.Core.List.{List, [], _∷_, map}
+use Prim.Native.Nat.{ℕ}
+use mathlib.Core.List.{List, map}
 use Rattle.marking.specs.ReadingSpans.{spans}
+use Rattle.rows.specs.Rows
 use Rattle.row.specs.declared.Definition.{Definition}
 use Rattle.span.specs.declared.Span.{Span}
-use Rattle.span.specs.Row.{stored}
+use Rattle.span.specs.Row.{width, numbers}
 use Rattle.inline.specs.Reading.{grammar}
 use Rattle.inline.specs.ReadingRows.{rowFor}
 
@@ -13,6 +14,5 @@ abbrev pub rowsFor : ℕ → List ℕ → List (List ℕ) → List Definition �
 rowsFor offset p labels ds = map (rowFor offset p ds) (spans (grammar p labels))
 
 -- the table t with the rows of these spans of the note s from row k on, as far as they fit
-unfoldable pub storedAll : List ℕ → List ℕ → ℕ → List Span → List ℕ
-storedAll s t k [] = t
-storedAll s t k (x ∷ xs) = storedAll s (stored s t k x) (k + 1) xs
+abbrev pub storedAll : List ℕ → List ℕ → ℕ → List Span → List ℕ
+storedAll s = Rows.storedAll width (numbers s)

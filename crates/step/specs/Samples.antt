@@ -31,5 +31,5 @@ pub record Stored : Type 0 where
   pub no-table : storedAll note [] 0 (link ∷ code ∷ []) ≡ []
 
 pub samples : Stored
-unfolding feeds lineOf storedAll rows.stored
+unfolding feeds lineOf rows.storedAll rows.stored
 samples = record { both = refl; first-fits = refl; none-fits = refl; no-table = refl }

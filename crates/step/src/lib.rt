@@ -1,12 +1,14 @@
 // Past one piece of a paragraph: what it comes to, and the row of the span that ends with it.
 ghost use mathlib.Core.Path.{_≡_};
-ghost use Prim.Native.Nat.{_<_};
+ghost use Prim.Native.Nat.{_+_, _<_};
 ghost use lib.ListN.{length};
+ghost use Rattle.texts.specs.Texts.{texts};
 ghost use Rattle.row.specs.Reading.{Fit, definitionsFrom};
 ghost use Rattle.parens.specs.Unclosed.{Prepared};
 ghost use Rattle.ticks.specs.LastRuns.{Ready};
-ghost use Rattle.tail.specs.Ending.{labelsIn};
-ghost use Rattle.step.specs.Promise.{first, afresh, lined, LinedPair, BacktickAt, Bounds, Lined, Closes, Passes};
+ghost use Rattle.inline.specs.Reading.{tailAt};
+ghost use Rattle.tail.specs.Ending.{labelsIn, shown?, Sized?};
+ghost use Rattle.step.specs.Promise.{first, afresh, lined, Pair, LinedPair, BacktickAt, Bounds, Lined, Closes, Passes};
 use line::Line;
 use row::Range;
 use scan::Found;
@@ -65,11 +67,38 @@ pub fn count_lines(note: &[u8], start: usize, spans: &[u32], w: Walk) -> Walk
     v
 }
 
-// Past the `]` at the walk's place, whose pair opens at `opening`, on this line if a row more can be stored.
-pub fn close_pair(
+// The tail of the pair of brackets at `opening` and `closing`.
+fn tail_at<'a>(
+    p: &[u8],
+    opening: usize,
+    closing: usize,
+    note: &'a [u8],
+    sheet: &'a [u8],
+    definitions: &[u32],
+    count: usize,
+    marks: &mut [u8],
+) -> Ending
+    requires { ⌜ Pair (now p) opening closing ⌝ }
+    requires { ⌜ Fit (texts (now note) (now sheet)) (now definitions) count ⌝ }
+    requires { ⌜ Prepared (now p) closing (now marks) ⌝ }
+    ensures { λ r. ⌜ shown? (closing + 1) r ≡ tailAt (now (p .entry)) (labelsIn (texts (now (note .entry)) (now (sheet .entry))) (now (definitions .entry)) count) (opening + 1) closing ⌝ }
+    ensures { λ r. ⌜ Sized? r ⌝ }
+    ensures { λ r. ⌜ Prepared (now (p .entry)) (closing + 1) (now (marks .exit)) ⌝ }
+{
+    let next = closing + 1;
+    let text = &p[opening + 1..closing];
+    let rest = &p[next..];
+    let own = &mut marks[next..];
+    tail::tail_after(text, rest, note, sheet, definitions, count, own)
+}
+
+// Past the `]` at the walk's place, whose pair opens at `opening`, on this line if a row more can be stored. That bracket is open no
+// longer.
+pub fn close_pair<'a>(
     p: &[u8],
     start: usize,
-    note: &[u8],
+    note: &'a [u8],
+    sheet: &'a [u8],
     definitions: &[u32],
     count: usize,
     spans: &mut [u32],
@@ -80,22 +109,20 @@ pub fn close_pair(
 ) -> Walk
     requires { ⌜ LinedPair (now note) start (now p) (now spans) w opening line ⌝ }
     requires { ⌜ Bounds start (now p) count w ⌝ }
-    requires { ⌜ Fit (now note) (now definitions) count ⌝ }
+    requires { ⌜ Fit (texts (now note) (now sheet)) (now definitions) count ⌝ }
     requires { ⌜ Prepared (now p) (w .at) (now marks) ⌝ }
-    ensures { λ r. ⌜ Closes (now (note .entry)) start (now (p .entry)) (labelsIn (now (note .entry)) (now (definitions .entry)) count) (definitionsFrom (now (definitions .entry)) 0 count) opening w (now (spans .entry)) r (now (spans .exit)) ⌝ }
+    ensures { λ r. ⌜ Closes (now (note .entry)) start (now (p .entry)) (labelsIn (texts (now (note .entry)) (now (sheet .entry))) (now (definitions .entry)) count) (definitionsFrom (now (definitions .entry)) 0 count) opening w (now (spans .entry)) r (now (spans .exit)) ⌝ }
     ensures { λ r. ⌜ Prepared (now (p .entry)) (r .at) (now (marks .exit)) ⌝ }
 {
     let at = w.at;
     let next = at + 1;
     let mut v = w;
     v.at = next;
+    v.depth = w.depth - 1;
     if opening < w.last {
         return v;
     }
-    let text = &p[opening + 1..at];
-    let rest = &p[next..];
-    let Ending::With(t) = tail::tail_after(text, rest, note, definitions, count, &mut marks[next..])
-    else {
+    let Ending::With(t) = tail_at(p, opening, at, note, sheet, definitions, count, marks) else {
         return v;
     };
     let row = link::link_row(start, opening, at, t, definitions, count);

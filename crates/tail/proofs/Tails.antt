@@ -10,42 +10,42 @@ use lib.ListN.{length, getD, take, drop}
 use Rattle.scan.specs.declared.Found.{Found}
 use Rattle.scan.specs.declared.Found.the-variants.{At, Nothing}
 use Rattle.label.specs.Reading.{labelEnd, isLabel}
+use Rattle.texts.specs.Texts.{Texts}
 use Rattle.row.specs.Reading.{firstMatch, rowOf}
 use Rattle.inline.specs.ReadingTails.{inlineOf, labelAfter, emptyAfter, fullBy, shortBy, textTail, referenceBy, referenceOf, tailBy, tailOf}
 use Rattle.inline.proofs.TailBounds.{label-inside}
 use Rattle.inline.specs.declared.InlineTail.{InlineTail}
-use Rattle.inline.specs.declared.InlineTail.the-variants as inlines
 use Rattle.tail.specs.Ending.{labelsIn, lengthTo, labelLength}
 
 never : {n : ℕ} → Nothing ≡ At n → ⊥
 never e = let z : _≡_ {A = ℕ} 0 1 = cc in omega arith
 
-module _ (note t : List ℕ) (count : ℕ) where
-  pub full-by : (n : ℕ) (label : List ℕ) (f : Found) → rowOf note t label count ≡ f → fullBy n f ≡ fullBy n (firstMatch (labelsIn note t count) label)
+module _ (T : Texts) (t : List ℕ) (count : ℕ) where
+  pub full-by : (n : ℕ) (label : List ℕ) (f : Found) → rowOf T t label count ≡ f → fullBy n f ≡ fullBy n (firstMatch (labelsIn T t count) label)
   unfolding rowOf
   full-by n label f e = ap (fullBy n) (sym e)
 
   module _ (text s : List ℕ) where
-    pub text-no-label : isLabel text ≡ false → none ≡ textTail (labelsIn note t count) text s
+    pub text-no-label : isLabel text ≡ false → none ≡ textTail (labelsIn T t count) text s
     unfolding textTail
     text-no-label e = rw (textTail, e)
 
-    pub text-by : isLabel text ≡ true → (empty : Bool) → emptyAfter s ≡ empty → (f : Found) → rowOf note t text count ≡ f → shortBy empty f ≡ textTail (labelsIn note t count) text s
+    pub text-by : isLabel text ≡ true → (empty : Bool) → emptyAfter s ≡ empty → (f : Found) → rowOf T t text count ≡ f → shortBy empty f ≡ textTail (labelsIn T t count) text s
     unfolding textTail rowOf
     text-by e empty h f q = rw (textTail, e) (ap (λ (b : Bool). shortBy b f) (sym h) ∙ ap (shortBy (emptyAfter s)) (sym q))
 
-    pub reference-by : (f : Found) → labelAfter s ≡ f → referenceBy (labelsIn note t count) text s f ≡ referenceOf (labelsIn note t count) text s
-    reference-by f e = ap (referenceBy (labelsIn note t count) text s) (sym e)
+    pub reference-by : (f : Found) → labelAfter s ≡ f → referenceBy (labelsIn T t count) text s f ≡ referenceOf (labelsIn T t count) text s
+    reference-by f e = ap (referenceBy (labelsIn T t count) text s) (sym e)
 
     pub full-reference-by : (n : ℕ) → 2 ≤ n → labelAfter s ≡ At (n - 1)
-        → fullBy n (firstMatch (labelsIn note t count) (take (n - 1 - 1) (drop 1 s))) ≡ referenceOf (labelsIn note t count) text s
+        → fullBy n (firstMatch (labelsIn T t count) (take (n - 1 - 1) (drop 1 s))) ≡ referenceOf (labelsIn T t count) text s
     full-reference-by n h e =
         let z : n ≡ n - 1 + 1 = omega arith in
-        ap (λ (k : ℕ). fullBy k (firstMatch (labelsIn note t count) (take (n - 1 - 1) (drop 1 s)))) z ∙ reference-by (At (n - 1)) e
+        ap (λ (k : ℕ). fullBy k (firstMatch (labelsIn T t count) (take (n - 1 - 1) (drop 1 s)))) z ∙ reference-by (At (n - 1)) e
 
-    pub tail-by : (at : ℕ) (f : InlineTail) → inlineOf s ≡ f → tailBy (labelsIn note t count) text s at f ≡ tailOf (labelsIn note t count) text s at
+    pub tail-by : (at : ℕ) (f : InlineTail) → inlineOf s ≡ f → tailBy (labelsIn T t count) text s at f ≡ tailOf (labelsIn T t count) text s at
     unfolding tailOf
-    tail-by at f e = ap (tailBy (labelsIn note t count) text s at) (sym e)
+    tail-by at f e = ap (tailBy (labelsIn T t count) text s at) (sym e)
 
 -- ---- the label that follows, by its length
 module _ (s : List ℕ) {b : ℕ} (eb : b ≡ getD s 0 0) where

@@ -5,8 +5,9 @@ use mathlib.Core.Option.{Option, none, some}
 use mathlib.Core.List.{List}
 use Rattle.scan.specs.declared.Found.{Found}
 use Rattle.scan.specs.declared.Found.the-variants as found
+use Rattle.texts.specs.Texts.{Texts}
 use Rattle.row.specs.First.{labelsOf}
-use Rattle.row.specs.Reading.{definitionsFrom}
+use Rattle.row.specs.Reading.{listedFrom}
 use Rattle.inline.specs.Tails.{Tail, inline, full, collapsed, shortcut, lengthOf}
 use Rattle.inline.specs.ReadingTails.{moved, labelAfter}
 use Rattle.tail.specs.declared.Way.{Way}
@@ -16,8 +17,8 @@ use Rattle.tail.specs.declared.Ending.{Ending}
 use Rattle.tail.specs.declared.Ending.the-variants.{With, Nothing}
 
 -- the labels of the first `count` rows of a definition table
-abbrev pub labelsIn : List ℕ → List ℕ → ℕ → List (List ℕ)
-labelsIn note t count = labelsOf note (definitionsFrom t 0 count)
+abbrev pub labelsIn : Texts → List ℕ → ℕ → List (List ℕ)
+labelsIn T t count = labelsOf T (listedFrom t 0 count)
 
 -- a tail of n bytes whose first byte stands at place `at` of the paragraph
 abbrev pub shownBy : ℕ → ℕ → Way → Tail

@@ -1,6 +1,7 @@
 // The tail of a link: what follows the closing bracket of a pair, read on its own.
 ghost use mathlib.Core.Path.{_≡_};
 ghost use Prim.Native.Nat.{ℕ};
+ghost use Rattle.texts.specs.Texts.{texts};
 ghost use Rattle.parens.specs.Unclosed.{Prepared};
 ghost use Rattle.row.specs.Reading.{Fit, firstMatch};
 ghost use Rattle.inline.specs.ReadingTails.{closedAt, afterDestination, inlineOf, emptyAfter, fullBy, textTail, referenceOf, tailOf};
@@ -111,18 +112,19 @@ fn empty_after(rest: &[u8]) -> bool
 }
 
 // A full reference of `length` bytes, if its label is defined.
-fn full_reference(
+fn full_reference<'a>(
     label: &[u8],
     length: usize,
-    note: &[u8],
+    note: &'a [u8],
+    sheet: &'a [u8],
     definitions: &[u32],
     count: usize,
 ) -> Ending
-    requires { ⌜ Fit (now note) (now definitions) count ⌝ }
-    ensures { λ r. ⌜ ((at : ℕ) → shown? at r ≡ fullBy length (firstMatch (labelsIn (now (note .entry)) (now (definitions .entry)) count) (now (label .entry)))) ⌝ }
+    requires { ⌜ Fit (texts (now note) (now sheet)) (now definitions) count ⌝ }
+    ensures { λ r. ⌜ ((at : ℕ) → shown? at r ≡ fullBy length (firstMatch (labelsIn (texts (now (note .entry)) (now (sheet .entry))) (now (definitions .entry)) count) (now (label .entry)))) ⌝ }
     ensures { λ r. ⌜ Sized? r ⌝ }
 {
-    match row::lookup(note, definitions, count, label) {
+    match row::lookup(note, sheet, definitions, count, label) {
         Found::At(k) => Ending::With(ReadTail {
             length,
             way: Way::Full(k),
@@ -132,21 +134,22 @@ fn full_reference(
 }
 
 // A reference by its text, if that is a label that is defined.
-fn text_reference(
+fn text_reference<'a>(
     text: &[u8],
     rest: &[u8],
-    note: &[u8],
+    note: &'a [u8],
+    sheet: &'a [u8],
     definitions: &[u32],
     count: usize,
 ) -> Ending
-    requires { ⌜ Fit (now note) (now definitions) count ⌝ }
-    ensures { λ r. ⌜ ((at : ℕ) → shown? at r ≡ textTail (labelsIn (now (note .entry)) (now (definitions .entry)) count) (now (text .entry)) (now (rest .entry))) ⌝ }
+    requires { ⌜ Fit (texts (now note) (now sheet)) (now definitions) count ⌝ }
+    ensures { λ r. ⌜ ((at : ℕ) → shown? at r ≡ textTail (labelsIn (texts (now (note .entry)) (now (sheet .entry))) (now (definitions .entry)) count) (now (text .entry)) (now (rest .entry))) ⌝ }
     ensures { λ r. ⌜ Sized? r ⌝ }
 {
     if !label::is_label(text) {
         return Ending::Nothing;
     }
-    match row::lookup(note, definitions, count, text) {
+    match row::lookup(note, sheet, definitions, count, text) {
         Found::At(k) => {
             if empty_after(rest) {
                 return Ending::With(ReadTail {
@@ -164,30 +167,38 @@ fn text_reference(
 }
 
 // A reference: by the label that follows, or else by its text.
-fn reference(text: &[u8], rest: &[u8], note: &[u8], definitions: &[u32], count: usize) -> Ending
-    requires { ⌜ Fit (now note) (now definitions) count ⌝ }
-    ensures { λ r. ⌜ ((at : ℕ) → shown? at r ≡ referenceOf (labelsIn (now (note .entry)) (now (definitions .entry)) count) (now (text .entry)) (now (rest .entry))) ⌝ }
+fn reference<'a>(
+    text: &[u8],
+    rest: &[u8],
+    note: &'a [u8],
+    sheet: &'a [u8],
+    definitions: &[u32],
+    count: usize,
+) -> Ending
+    requires { ⌜ Fit (texts (now note) (now sheet)) (now definitions) count ⌝ }
+    ensures { λ r. ⌜ ((at : ℕ) → shown? at r ≡ referenceOf (labelsIn (texts (now (note .entry)) (now (sheet .entry))) (now (definitions .entry)) count) (now (text .entry)) (now (rest .entry))) ⌝ }
     ensures { λ r. ⌜ Sized? r ⌝ }
 {
     match label_after(rest) {
-        Found::At(n) => full_reference(&rest[1..n - 1], n, note, definitions, count),
-        Found::Nothing => text_reference(text, rest, note, definitions, count),
+        Found::At(n) => full_reference(&rest[1..n - 1], n, note, sheet, definitions, count),
+        Found::Nothing => text_reference(text, rest, note, sheet, definitions, count),
     }
 }
 
 // The tail of a pair of brackets: `text` stands between them, and `rest` is the part of the paragraph that starts after the closing one.
 // Definitions are the first `count` rows of their table.
-pub fn tail_after(
+pub fn tail_after<'a>(
     text: &[u8],
     rest: &[u8],
-    note: &[u8],
+    note: &'a [u8],
+    sheet: &'a [u8],
     definitions: &[u32],
     count: usize,
     marks: &mut [u8],
 ) -> Ending
-    requires { ⌜ Fit (now note) (now definitions) count ⌝ }
+    requires { ⌜ Fit (texts (now note) (now sheet)) (now definitions) count ⌝ }
     requires { ⌜ Prepared (now rest) 0 (now marks) ⌝ }
-    ensures { λ r. ⌜ ((at : ℕ) → shown? at r ≡ tailOf (labelsIn (now (note .entry)) (now (definitions .entry)) count) (now (text .entry)) (now (rest .entry)) at) ⌝ }
+    ensures { λ r. ⌜ ((at : ℕ) → shown? at r ≡ tailOf (labelsIn (texts (now (note .entry)) (now (sheet .entry))) (now (definitions .entry)) count) (now (text .entry)) (now (rest .entry)) at) ⌝ }
     ensures { λ r. ⌜ Sized? r ⌝ }
     ensures { λ r. ⌜ Prepared (now (rest .entry)) 0 (now (marks .exit)) ⌝ }
 {
@@ -201,6 +212,6 @@ pub fn tail_after(
                 way: Way::Parts(destination, title),
             })
         }
-        InlineTail::Nothing => reference(text, rest, note, definitions, count),
+        InlineTail::Nothing => reference(text, rest, note, sheet, definitions, count),
     }
 }

@@ -6,6 +6,8 @@ use mathlib.Core.Path.{_≡_, refl, sym, ap, _∙_}
 use mathlib.Core.List.{List, [], _++_}
 use lib.ListN.{length, take, drop, length-append, length-drop, drop-of-length-le}
 use lib.Seq.{length-take-le, take-all}
+use Rattle.texts.specs.Texts.{Texts}
+use Rattle.joined.specs.Reading.{joined}
 use Rattle.walk.specs.Reading.{placedBetween}
 use Rattle.walk.proofs.Steps.{cut}
 use Rattle.note.specs.Reading.{spanRows}
@@ -18,47 +20,50 @@ use Rattle.writer.specs.declared.Pass.{Pass}
 use Rattle.writer.specs.Pass.{left, Cursors, Stands, Goes, Starts, Ends}
 use Rattle.cursor.proofs.Cursors.{still-behind}
 
-pub cursors-later : {s : List ℕ} {p : Pass} {i j : ℕ} → Cursors s p i → i ≤ j → Cursors s p j
+pub cursors-later : {T : Texts} {p : Pass} {i j : ℕ} → Cursors T p i → i ≤ j → Cursors T p j
 cursors-later c h = record { code = still-behind (c .code) h; link = still-behind (c .link) h }
 
 leads-on : {page₀ whole page page′ rest rest′ : List ℕ} {n k k′ : ℕ} → Leads page₀ n whole page k rest → Leads page k rest page′ k′ rest′ → Leads page₀ n whole page′ k′ rest′
 leads-on a b = record { size = b .size ∙ a .size; stored = b .stored ∙ a .stored; same = b .same ∙ a .same }
 
-module _ (s : List ℕ) (e : ℕ) (w : e ≤ length s) where
-  left-none : (i : ℕ) → e ≤ i → left s e i ≡ []
+module _ (T : Texts) (e : ℕ) (w : e ≤ length (T .note)) where
+  abbrev s : List ℕ
+  s = T .note
+
+  left-none : (i : ℕ) → e ≤ i → left T e i ≡ []
   unfolding contentFrom
   left-none i h = let l : length (take e s) ≤ i = omega (arith, length-take-le e s w) in rw (drop-of-length-le (take e s) l) refl
 
-  left-whole : (a : ℕ) → a ≤ e → contentFrom s (spanRows s) 0 (placedBetween s a e .bytes) a ≡ left s e a
+  left-whole : (a : ℕ) → a ≤ e → contentFrom T (joined T) (spanRows T) 0 (placedBetween s a e .bytes) a ≡ left T e a
   left-whole a h =
       let z : take (e - a) (drop a s) ≡ drop a (take e s)
       = sym (cut s a e h w e (omega arith)) ∙ take-all (e - a) (drop a (take e s)) (omega (arith, length-drop a (take e s), length-take-le e s w)) in
       rw (z, zero-add a) refl
 
-  paragraph-is : (a : ℕ) → a ≤ e → paragraphPage s (spanRows s) (placedBetween s a e) ≡ paragraphOpen ++ left s e a ++ paragraphClose
+  paragraph-is : (a : ℕ) → a ≤ e → paragraphPage T (joined T) (spanRows T) (placedBetween s a e) ≡ paragraphOpen ++ left T e a ++ paragraphClose
   unfolding paragraphPage
   paragraph-is a h = ap (λ (l : List ℕ). paragraphOpen ++ l ++ paragraphClose) (left-whole a h)
 
 -- the loop started at w₀ and stands at w
-pub record Going (s : List ℕ) (e : ℕ) (w₀ : Pass) (page₀ page : List ℕ) (w : Pass) : Type 0 where
-  pub written : Leads page₀ (w₀ .size) (left s e (w₀ .at)) page (w .size) (left s e (w .at))
-  pub here : Cursors s w (w .at)
-  pub there : Cursors s w e
+pub record Going (T : Texts) (e : ℕ) (w₀ : Pass) (page₀ page : List ℕ) (w : Pass) : Type 0 where
+  pub written : Leads page₀ (w₀ .size) (left T e (w₀ .at)) page (w .size) (left T e (w .at))
+  pub here : Cursors T w (w .at)
+  pub there : Cursors T w e
 
 -- p, where n bytes are written
 abbrev at-size : Pass → ℕ → Pass
 at-size p n = record { at = p .at; code = p .code; link = p .link; size = n }
 
-module _ {s : List ℕ} {e : ℕ} {p : Pass} (q : Starts s e p) where
+module _ {T : Texts} {e : ℕ} {p : Pass} (q : Starts T e p) where
   abbrev whole : List ℕ
-  whole = left s e (p .at)
+  whole = left T e (p .at)
 
   parts : p .size + (length paragraphOpen + length whole + length paragraphClose) ≤ pageMost
   parts =
       omega (
         arith,
         q .room,
-        ap length (paragraph-is s e (q .within) (p .at) (q .ordered)),
+        ap length (paragraph-is T e (q .within) (p .at) (q .ordered)),
         length-append paragraphOpen whole,
         length-append (paragraphOpen ++ whole) paragraphClose,
       )
@@ -67,16 +72,16 @@ module _ {s : List ℕ} {e : ℕ} {p : Pass} (q : Starts s e p) where
   open-room = omega (arith, parts)
 
   module _ {page page₀ : List ℕ} {n : ℕ} (x : Writes page (p .size) paragraphOpen page₀ n) where
-    pub opened : Going s e (at-size p n) page₀ page₀ (at-size p n)
+    pub opened : Going T e (at-size p n) page₀ page₀ (at-size p n)
     opened =
         let c = cursors-later (q .cursors) (q .ordered) in
         record { written = leads; here = record { code = q .cursors .code; link = q .cursors .link }; there = record { code = c .code; link = c .link } }
 
-    module _ {mid : List ℕ} {w : Pass} (g : Going s e (at-size p n) page₀ mid w) where
-      pub stands : w .at < e → Stands s e w
+    module _ {mid : List ℕ} {w : Pass} (g : Going T e (at-size p n) page₀ mid w) where
+      pub stands : w .at < e → Stands T e w
       stands h = record { inside = h; within = q .within; cursors = g .here; room = omega (arith, g .written .size, x .size, parts) }
 
-      pub goes-on : {mid′ : List ℕ} {r : Pass} → w .at < e → Goes s e w mid r mid′ → Going s e (at-size p n) page₀ mid′ r
+      pub goes-on : {mid′ : List ℕ} {r : Pass} → w .at < e → Goes T e w mid r mid′ → Going T e (at-size p n) page₀ mid′ r
       goes-on h y = record {
         written = leads-on (g .written) (y .written);
         here = cursors-later (y .cursors) (omega (arith, y .onward));
@@ -84,14 +89,14 @@ module _ {s : List ℕ} {e : ℕ} {p : Pass} (q : Starts s e p) where
       }
 
       module _ (h : e ≤ w .at) where
-        none-left : left s e (w .at) ≡ []
-        none-left = left-none s e (q .within) (w .at) h
+        none-left : left T e (w .at) ≡ []
+        none-left = left-none T e (q .within) (w .at) h
 
         pub close-room : w .size + length paragraphClose ≤ pageMost
         close-room = omega (arith, g .written .size, ap length none-left, x .size, parts)
 
-        pub closed : {after : List ℕ} {m : ℕ} → Writes mid (w .size) paragraphClose after m → Ends s e p page (at-size w m) after
+        pub closed : {after : List ℕ} {m : ℕ} → Writes mid (w .size) paragraphClose after m → Ends T e p page (at-size w m) after
         closed y = record {
-          written = rw (paragraph-is s e (q .within) (p .at) (q .ordered)) (both (both x (done (g .written) none-left)) y);
+          written = rw (paragraph-is T e (q .within) (p .at) (q .ordered)) (both (both x (done (g .written) none-left)) y);
           cursors = record { code = g .there .code; link = g .there .link };
         }

@@ -3,49 +3,57 @@ use Prim.Native.Nat.{ℕ, _+_, _-_, _≤_, _<_}
 use mathlib.Core.Path.{_≡_}
 use mathlib.Core.List.{List}
 use mathlib.Core.Logic.{_⊎_}
-use mathlib.Core.Bool.{Bool, true, false, cond}
+use mathlib.Core.Bool.{true, false, cond}
 use lib.ListN.{length, take}
 use lib.Dec.{eqb}
 use Rattle.scan.specs.Member.{In}
+use Rattle.texts.specs.Texts.{Texts, texts}
+use Rattle.row.specs.Row.{wholeRows}
 use Rattle.row.specs.First.{bytesOf}
+use Rattle.row.specs.Reading.{listedFrom}
+use Rattle.joined.specs.Reading.{joined}
 use Rattle.walk.specs.Reading.{placedBetween}
 use Rattle.inline.specs.Rows.{rowEnd}
 use Rattle.note.specs.Reading.{spanRows}
 use Rattle.html.specs.Tags.{linkClose}
 use Rattle.code.specs.Reading.{codeElement}
-use Rattle.html.specs.Reading.{linkOpen}
 use Rattle.buffer.specs.Stored.{pageMost, Writes}
 use Rattle.buffer.specs.Stored.{Leads}
-use Rattle.page.specs.Reading.{isCode, rowStart, textEnd, text, destination, title, Written, paragraphPage, from, here, Bare}
+use Rattle.page.specs.Reading.{isCode, rowStart, textEnd, text, openTag, Written, paragraphPage, from, here, Bare}
 use Rattle.writer.specs.declared.Pass.{Pass}
 use Rattle.cursor.specs.Cursor.{Behind}
 
--- ---- a paragraph of the note s that ends at e
-module _ (s : List ℕ) (e : ℕ) where
+-- the definition table t holds the joined list
+pub record Listing (T : Texts) (t : List ℕ) : Type 0 where
+  pub room : length (joined T) ≤ wholeRows t
+  pub rows-are : listedFrom t 0 (length (joined T)) ≡ joined T
+
+-- ---- a paragraph of the note that ends at e
+module _ (T : Texts) (e : ℕ) where
   -- what is still to write of it at place i
   abbrev pub left : ℕ → List ℕ
-  left i = from s (spanRows s) (take e s) 0 i
+  left i = from T (joined T) (spanRows T) (take e (T .note)) 0 i
 
   -- what the row r calls for at place i
   abbrev pub byRow : List ℕ → ℕ → Written
   byRow r i =
-      cond (isCode r) (record { size = rowEnd r - rowStart r; bytes = codeElement (bytesOf s (text r)) })
-      (cond (eqb i (rowStart r)) (record { size = 1; bytes = linkOpen (bytesOf s (destination r)) (bytesOf s (title r)) }) (record { size = rowEnd r - textEnd r; bytes = linkClose }))
+      cond (isCode r) (record { size = rowEnd r - rowStart r; bytes = codeElement (bytesOf (T .note) (text r)) })
+      (cond (eqb i (rowStart r)) (record { size = 1; bytes = openTag T (joined T) r }) (record { size = rowEnd r - textEnd r; bytes = linkClose }))
 
   -- place i lies in the paragraph; the row r of the note starts there, or is a link whose text ends there, and what is written is what it calls for
   pub record Called (r : List ℕ) (i : ℕ) : Type 0 where
-    pub is-row : In r (spanRows s)
+    pub is-row : In r (spanRows T)
     pub stands : (rowStart r ≡ i) ⊎ ((isCode r ≡ false) × (textEnd r ≡ i))
     pub inside : i < e
-    pub within : e ≤ length s
-    pub called : here s (spanRows s) (take e s) 0 i ≡ byRow r i
+    pub within : e ≤ length (T .note)
+    pub called : here T (joined T) (spanRows T) (take e (T .note)) 0 i ≡ byRow r i
 
   -- from place i up to place k, within the paragraph, no row calls for anything
   pub record Plain (i k : ℕ) : Type 0 where
     pub nonempty : i < k
     pub inside : k ≤ e
-    pub within : e ≤ length s
-    pub bare : (j : ℕ) → i ≤ j → j < k → Bare s (spanRows s) (take e s) 0 j
+    pub within : e ≤ length (T .note)
+    pub bare : (j : ℕ) → i ≤ j → j < k → Bare T (joined T) (spanRows T) (take e (T .note)) 0 j
 
   -- what is left of the paragraph at p fits
   abbrev pub Room : Pass → Type 0
@@ -58,32 +66,43 @@ module _ (s : List ℕ) (e : ℕ) where
     pub same-code : r .code ≡ p .code
     pub same-link : r .link ≡ p .link
 
+-- ---- text: what is written of it does not depend on the sheet
+-- with some sheet there is text from p up to `stop`, in a paragraph of the note s that ends at e, and what is left of that fits
+pub record TextAhead (s : List ℕ) (e stop : ℕ) (p : Pass) : Type 0 where
+  pub sheet : List ℕ
+  pub plain : Plain (texts s sheet) e (p .at) stop
+  pub room : Room (texts s sheet) e p
+
+-- whatever the sheet, where there is text up to `stop` the pass goes on from p to r; the page has become page′
+abbrev pub PassesText : List ℕ → ℕ → ℕ → Pass → List ℕ → Pass → List ℕ → Type 0
+PassesText s e stop p page r page′ = (sheet : List ℕ) → Plain (texts s sheet) e (p .at) stop → Passes (texts s sheet) e p page r page′
+
 -- ---- the cursors of p at place i
-pub record Cursors (s : List ℕ) (p : Pass) (i : ℕ) : Type 0 where
-  pub code : Behind true (spanRows s) (p .code) i
-  pub link : Behind false (spanRows s) (p .link) i
+pub record Cursors (T : Texts) (p : Pass) (i : ℕ) : Type 0 where
+  pub code : Behind true (spanRows T) (p .code) i
+  pub link : Behind false (spanRows T) (p .link) i
 
 -- p stands in a paragraph that ends at e, with its cursors, and what is left of it fits
-pub record Stands (s : List ℕ) (e : ℕ) (p : Pass) : Type 0 where
+pub record Stands (T : Texts) (e : ℕ) (p : Pass) : Type 0 where
   pub inside : p .at < e
-  pub within : e ≤ length s
-  pub cursors : Cursors s p (p .at)
-  pub room : Room s e p
+  pub within : e ≤ length (T .note)
+  pub cursors : Cursors T p (p .at)
+  pub room : Room T e p
 
 -- the pass goes on from p to r, its cursors moved to where they stand for the place p .at
-pub record Goes (s : List ℕ) (e : ℕ) (p : Pass) (page : List ℕ) (r : Pass) (page′ : List ℕ) : Type 0 where
-  pub written : Leads page (p .size) (left s e (p .at)) page′ (r .size) (left s e (r .at))
+pub record Goes (T : Texts) (e : ℕ) (p : Pass) (page : List ℕ) (r : Pass) (page′ : List ℕ) : Type 0 where
+  pub written : Leads page (p .size) (left T e (p .at)) page′ (r .size) (left T e (r .at))
   pub onward : p .at < r .at
-  pub cursors : Cursors s r (p .at)
+  pub cursors : Cursors T r (p .at)
 
 -- p stands at the start of a paragraph that ends at e, and there is room for it
-pub record Starts (s : List ℕ) (e : ℕ) (p : Pass) : Type 0 where
+pub record Starts (T : Texts) (e : ℕ) (p : Pass) : Type 0 where
   pub ordered : p .at ≤ e
-  pub within : e ≤ length s
-  pub cursors : Cursors s p (p .at)
-  pub room : p .size + length (paragraphPage s (spanRows s) (placedBetween s (p .at) e)) ≤ pageMost
+  pub within : e ≤ length (T .note)
+  pub cursors : Cursors T p (p .at)
+  pub room : p .size + length (paragraphPage T (joined T) (spanRows T) (placedBetween (T .note) (p .at) e)) ≤ pageMost
 
 -- the paragraph is written, and the cursors stand for its end
-pub record Ends (s : List ℕ) (e : ℕ) (p : Pass) (page : List ℕ) (r : Pass) (page′ : List ℕ) : Type 0 where
-  pub written : Writes page (p .size) (paragraphPage s (spanRows s) (placedBetween s (p .at) e)) page′ (r .size)
-  pub cursors : Cursors s r e
+pub record Ends (T : Texts) (e : ℕ) (p : Pass) (page : List ℕ) (r : Pass) (page′ : List ℕ) : Type 0 where
+  pub written : Writes page (p .size) (paragraphPage T (joined T) (spanRows T) (placedBetween (T .note) (p .at) e)) page′ (r .size)
+  pub cursors : Cursors T r e

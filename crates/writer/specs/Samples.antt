@@ -1,10 +1,17 @@
--- Document 01's whole example, and a code span before its link: where the rows call for something, and for what.
+-- Document 01's whole example, with a code span before its link, and with its definition in a sheet: where the rows call for something, and for what.
 use Prim.Native.Nat.{ℕ}
 use mathlib.Core.Path.{_≡_, refl}
 use mathlib.Core.List.{List, [], _∷_, _++_, flatMap}
 use mathlib.Core.Bool.{true, false}
 use Rattle.scan.specs.Ascii.{ascii}
-use Rattle.scan.specs.Reading.{run}
+use Rattle.scan.specs.Reading.{scan, run, past, leap, closingStep, closing}
+use Rattle.text.specs.Sequences.{onesFrom, leadingOnes, sequenceLength, characters}
+use Rattle.texts.specs.Texts.{Texts, texts}
+use Rattle.label.specs.Reading.{inky, fitsAfter, fits, labelEnd}
+use Rattle.target.specs.Reading.{spaceFrom, depthAfter, rawStep, rawRun, judged, destinationOf, closer, titleOf}
+use Rattle.block.specs.Reading.{blankLine, lineLength, blockRest, blockLength, partLength, blockHere, blocks}
+use Rattle.definition.specs.Reading as definition
+use Rattle.joined.specs.Reading.{joined}
 use Rattle.escaping.specs.Escaping.{escaped}
 use Rattle.href.specs.Href.{stays, hexDigit, hrefByte}
 use Rattle.escaping.specs.Reading.{undone}
@@ -14,12 +21,20 @@ use Rattle.page.specs.Reading.{Written}
 use Rattle.cursor.specs.Cursor.{waits, nextPlace, rowPlace}
 use Rattle.writer.specs.Pass.{byRow}
 
-abbrev note : List ℕ
-note = ascii "[max]: /q2/max \"June\"\n\nUse [max].\n"
+abbrev alone : Texts
+alone = texts (ascii "[max]: /q2/max \"June\"\n\nUse [max].\n") []
+
+-- its definition in the sheet
+abbrev beside : Texts
+beside = texts (ascii "Use [max].\n") (ascii "[max]: /q2/max \"June\"\n")
 
 -- "Span row 5 27 32 28 31 1 7 14 16 20.", and it gains 3
 abbrev link : List ℕ
 link = 5 ∷ 27 ∷ 32 ∷ 28 ∷ 31 ∷ 1 ∷ 7 ∷ 14 ∷ 16 ∷ 20 ∷ 3 ∷ []
+
+-- the row of its link then
+abbrev reference : List ℕ
+reference = 5 ∷ 4 ∷ 9 ∷ 5 ∷ 8 ∷ 1 ∷ 7 ∷ 14 ∷ 16 ∷ 20 ∷ 1 ∷ []
 
 -- a code span from 23 to 26, whose text is one byte
 abbrev code : List ℕ
@@ -64,10 +79,15 @@ places = record {
 }
 
 pub record Calls : Type 0 where
-  pub opens : byRow note 33 link 27 ≡ written 1 (ascii "<a href=\"/q2/max\" title=\"June\">")
-  pub closes : byRow note 33 link 31 ≡ written 1 (ascii "</a>")
-  pub code-span : byRow note 33 code 23 ≡ written 3 (ascii "<code>s</code>")
+  pub opens : byRow alone 33 link 27 ≡ written 1 (ascii "<a href=\"/q2/max\" title=\"June\">")
+  pub opens-from-sheet : byRow beside 10 reference 4 ≡ written 1 (ascii "<a href=\"/q2/max\" title=\"June\">")
+  pub closes : byRow alone 33 link 31 ≡ written 1 (ascii "</a>")
+  pub code-span : byRow alone 33 code 23 ≡ written 3 (ascii "<code>s</code>")
 
 pub calls : Calls
-unfolding flatMap run escaped stays hexDigit hrefByte undone margin titleAttribute linkOpen
-calls = record { opens = refl; closes = refl; code-span = refl }
+unfolding flatMap scan run past leap closingStep closing onesFrom leadingOnes sequenceLength characters inky fitsAfter fits labelEnd spaceFrom depthAfter rawStep rawRun judged destinationOf closer titleOf
+    blankLine lineLength blockRest blockLength partLength blockHere blocks
+    definition.lineAfter definition.titleAfter definition.endingAfter definition.afterLabel definition.afterIndent definition.definitionAt definition.takingFrom
+    definition.definitionsFrom definition.definitionsOf definition.definitionsIn definition.definitions joined
+    escaped stays hexDigit hrefByte undone margin titleAttribute linkOpen
+calls = record { opens = refl; opens-from-sheet = refl; closes = refl; code-span = refl }

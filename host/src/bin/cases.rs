@@ -1,8 +1,8 @@
 //! Writes the cases that the program `samples` is run on, and what it has to print for them.
 //!
 //! `cases FOLDER` writes the files `stdin` and `stdout` of that folder (crates/samples); `cases
-//! --list` prints a line for each case: its number, what it lends, the lengths of the note and the
-//! label, what it is.
+//! --list` prints a line for each case: its number, what it lends, the lengths of the note, the sheet
+//! and the label, what it is.
 
 use std::io::{Error, Write};
 use std::path::Path;
@@ -50,6 +50,7 @@ fn list(cases: &[Case]) -> Result<(), Error> {
             case.span_numbers,
             case.page_bytes,
             case.note.len(),
+            case.sheet.len(),
             case.label.len(),
         ];
         let numbers = numbers.map(|number| number.to_string()).join("\t");

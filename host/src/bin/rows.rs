@@ -1,9 +1,11 @@
-//! Prints what the second reader makes of a note: its definition rows, its span rows and its page,
-//! one item a line. The note is the file named as the argument, or standard input.
+//! Prints what the second reader makes of a note: its definition rows and those of the sheet, its span
+//! rows and its page, one item a line. The note is the file named as the argument, or standard input;
+//! the sheet is a file that is named after it, or empty.
 //!
-//! A refusal is printed as `refusal NUMBER VALUE` and ends the program with 1. The page is one
+//! A refusal is printed as `refusal NUMBER VALUE TEXT` and ends the program with 1. The page is one
 //! quoted string; `--page` as the first argument prints the page alone, as it is.
 
+use std::fs::read;
 use std::io::{Error, Read, Write};
 use std::process::ExitCode;
 
@@ -15,11 +17,16 @@ fn main() -> ExitCode {
     if page_alone {
         arguments.remove(0);
     }
-    if arguments.len() > 1 {
-        eprintln!("usage: rows [--page] [FILE]");
-        return ExitCode::from(2);
-    }
-    match note_of(arguments.first()).and_then(|note| print(&note, page_alone)) {
+    let texts = match arguments.as_slice() {
+        [] => standard_input().map(|note| [note, Vec::new()]),
+        [note] => read(note).map(|note| [note, Vec::new()]),
+        [note, sheet] => read(note).and_then(|note| Ok([note, read(sheet)?])),
+        _ => {
+            eprintln!("usage: rows [--page] [NOTE [SHEET]]");
+            return ExitCode::from(2);
+        }
+    };
+    match texts.and_then(|[note, sheet]| print(&note, &sheet, page_alone)) {
         Ok(code) => code,
         Err(error) => {
             eprintln!("rows: {error}");
@@ -28,21 +35,15 @@ fn main() -> ExitCode {
     }
 }
 
-/// The note's bytes.
-fn note_of(file: Option<&String>) -> Result<Vec<u8>, Error> {
-    match file {
-        Some(file) => std::fs::read(file),
-        None => {
-            let mut note = Vec::new();
-            std::io::stdin().read_to_end(&mut note)?;
-            Ok(note)
-        }
-    }
+fn standard_input() -> Result<Vec<u8>, Error> {
+    let mut note = Vec::new();
+    std::io::stdin().read_to_end(&mut note)?;
+    Ok(note)
 }
 
-/// Prints the answer for a note, as if all memory it needs were lent.
-fn print(note: &[u8], page_alone: bool) -> Result<ExitCode, Error> {
-    let answer = second::render(note, usize::MAX, usize::MAX, usize::MAX);
+/// Prints the answer for a note and a sheet, as if all memory it needs were lent.
+fn print(note: &[u8], sheet: &[u8], page_alone: bool) -> Result<ExitCode, Error> {
+    let answer = second::render(note, sheet, usize::MAX, usize::MAX, usize::MAX);
     let mut out = std::io::stdout().lock();
     let page = answer.page.unwrap_or_default();
     if page_alone && answer.number == second::number::SUCCESS {
@@ -53,7 +54,8 @@ fn print(note: &[u8], page_alone: bool) -> Result<ExitCode, Error> {
         writeln!(out, "definition {}", spaced(&row))?;
     }
     if answer.number != second::number::SUCCESS {
-        writeln!(out, "refusal {} {}", answer.number, answer.value)?;
+        let (number, value, text) = (answer.number, answer.value, answer.text);
+        writeln!(out, "refusal {number} {value} {text}")?;
         return Ok(ExitCode::FAILURE);
     }
     for row in answer.span_rows.unwrap_or_default() {

@@ -1,4 +1,4 @@
-//! Short notes by chance, the same in every run.
+//! Short notes by chance, without a sheet and with one, the same in every run.
 
 use super::Case;
 use crate::generate::chance::Chance;
@@ -10,13 +10,28 @@ const PARTS: [&str; 28] = [
 
 const DEFINITIONS: &str = "[a]: /1 \"t\"\n[b]: <2>\n\n";
 
+/// Definitions of a sheet, of which one has the label of the note's.
+const SHARED: &str = "s\n\n[B]: /3 't'\n[A]:\n</4>\n\n";
+
 pub fn cases() -> Vec<Case> {
-    let mut chance = Chance::from_seed(1);
-    let case = |index: usize| {
-        let before = if index % 2 == 0 { "" } else { DEFINITIONS };
-        let parts = chance.between(4, 24);
-        let note: String = (0..parts).map(|_| chance.one_of(&PARTS)).collect();
-        Case::of("by chance", before.to_string() + &note)
-    };
-    (0..300).map(case).collect()
+    let chance = &mut Chance::from_seed(1);
+    let alone = (0..300).map(|index| by_chance(text(index, DEFINITIONS, chance)));
+    let mut cases: Vec<Case> = alone.collect();
+    cases.extend((0..300).map(|index| {
+        let note = text(index / 2, DEFINITIONS, chance);
+        by_chance(note).beside(text(index, SHARED, chance))
+    }));
+    cases
+}
+
+fn by_chance(note: String) -> Case {
+    Case::of("by chance", note)
+}
+
+/// A text, with the definitions before it where the index is odd.
+fn text(index: usize, definitions: &str, chance: &mut Chance) -> String {
+    let before = if index % 2 == 0 { "" } else { definitions };
+    let parts = chance.between(4, 24);
+    let text: String = (0..parts).map(|_| chance.one_of(&PARTS)).collect();
+    before.to_string() + &text
 }

@@ -4,9 +4,9 @@
 use super::Case;
 use crate::second::{Reader, DEFINITION_ROW_WIDTH, SPAN_ROW_WIDTH};
 
-/// What each lent number holds before the call: no place, kind, definition number or line of a note.
+/// What each lent number holds before the call: no text, place, kind, definition number or line.
 const GUARD: u32 = 99_999;
-/// What each byte of the page holds before the call: no byte of a note or a page.
+/// What each byte of the page holds before the call: no byte of a good text or of a page.
 const PAGE_GUARD: u8 = 13;
 
 /// The lines for the case with this number, from 1.
@@ -23,10 +23,15 @@ pub fn tables_and_page(reader: Reader, case: &Case) -> Vec<u8> {
 
 /// The reader's answer, and both tables whole.
 fn reading(reader: Reader, case: &Case) -> Vec<u8> {
-    let answer = reader.read(&case.note, case.definition_numbers, case.span_numbers);
+    let answer = reader.read(
+        &case.note,
+        &case.sheet,
+        case.definition_numbers,
+        case.span_numbers,
+    );
     let line = format!(
-        "answer {} {} {} {}\n",
-        answer.number, answer.value, answer.definition_count, answer.span_count
+        "answer {} {} {} {} {}\n",
+        answer.number, answer.value, answer.definition_count, answer.span_count, answer.text
     );
     let definitions = answer.definition_table(&vec![GUARD; case.definition_numbers]);
     let spans = answer.span_table(&vec![GUARD; case.span_numbers]);
@@ -37,13 +42,19 @@ fn reading(reader: Reader, case: &Case) -> Vec<u8> {
 fn rendering(reader: Reader, case: &Case) -> Vec<u8> {
     let answer = reader.render(
         &case.note,
+        &case.sheet,
         case.definition_numbers,
         case.span_numbers,
         case.page_bytes,
     );
     let line = format!(
-        "rendering {} {} {} {} {}\n",
-        answer.number, answer.value, answer.definition_count, answer.span_count, answer.page_length
+        "rendering {} {} {} {} {} {}\n",
+        answer.number,
+        answer.value,
+        answer.definition_count,
+        answer.span_count,
+        answer.page_length,
+        answer.text
     );
     let definitions = answer.definition_table(&vec![GUARD; case.definition_numbers]);
     let spans = answer.span_table(&vec![GUARD; case.span_numbers]);
@@ -52,11 +63,15 @@ fn rendering(reader: Reader, case: &Case) -> Vec<u8> {
     [line.as_bytes(), tables.as_bytes(), &page, b"\n"].concat()
 }
 
-/// The enquiry's answer, and the part of the note that it hands back.
+/// The enquiry's answer, and the part of the note or of the sheet that it hands back.
 pub fn enquiry(reader: Reader, case: &Case) -> Vec<u8> {
-    let answer = reader.resolve(&case.note, &case.label);
-    let line = format!("enquiry {} {}\n", answer.number, answer.value);
-    [line.as_bytes(), &case.note[answer.destination], b"\n"].concat()
+    let answer = reader.resolve(&case.note, &case.sheet, &case.label);
+    let part = reader.part(&case.note, &case.sheet, &answer);
+    let line = format!(
+        "enquiry {} {} {}\n",
+        answer.number, answer.value, answer.text
+    );
+    [line.as_bytes(), part, b"\n"].concat()
 }
 
 /// Whether the note's bytes and the label's are equal as labels.

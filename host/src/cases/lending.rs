@@ -27,7 +27,7 @@ fn tables() -> Vec<Case> {
 }
 
 /// Numbers of a table: nothing, a part of a row, whole rows and one number less or more, many rows.
-fn near_three_rows(width: usize) -> [usize; 12] {
+pub(super) fn near_three_rows(width: usize) -> [usize; 12] {
     let row = |count: usize| count * width;
     [
         0,

@@ -14,6 +14,8 @@ mod limits;
 mod lines;
 mod links;
 mod named;
+mod sheet_refusals;
+mod sheets;
 
 pub use expected::{comparison, enquiry, expected, tables_and_page};
 
@@ -23,33 +25,46 @@ use crate::second::{DEFINITION_ROW_WIDTH, SPAN_ROW_WIDTH};
 pub const DEFINITION_ROOM: usize = 1_200;
 pub const SPAN_ROOM: usize = 3_000;
 pub const PAGE_ROOM: usize = 40_960;
+/// The room for note, sheet and label, each with a line end.
+pub const TEXT_ROOM: usize = 65_536;
 
-/// One case: what it is, what is lent, the note, and the label that is asked for. The note and the label are
-/// compared as two labels, too.
+/// One case: what it is, what is lent, the note, the sheet, and the label that is asked for. The note and the
+/// label are compared as two labels, too.
 pub struct Case {
     pub name: String,
     pub definition_numbers: usize,
     pub span_numbers: usize,
     pub page_bytes: usize,
     pub note: Vec<u8>,
+    pub sheet: Vec<u8>,
     pub label: Vec<u8>,
 }
 
 impl Case {
-    /// A case that lends enough for the note, and more: a row for each `]:`, for each `]` and for
-    /// each pair of backticks, part of a row, and a page some times as long as a short note. It asks
-    /// for what stands from the first `[` to the next `]`.
+    /// A case with an empty sheet that lends enough for the note, and more: a row for each `]:`, for each
+    /// `]` and for each pair of backticks, part of a row, and a page some times as long as a short note. It
+    /// asks for what stands from the first `[` to the next `]`.
     fn of(name: impl Into<String>, note: impl AsRef<[u8]>) -> Case {
         let note = note.as_ref().to_vec();
         let count = |byte: u8| note.iter().filter(|other| **other == byte).count();
-        let colons = note.windows(2).filter(|two| *two == b"]:").count();
         Case {
             name: name.into(),
-            definition_numbers: DEFINITION_ROW_WIDTH * colons + 4,
+            definition_numbers: DEFINITION_ROW_WIDTH * colons(&note) + 4,
             span_numbers: SPAN_ROW_WIDTH * (count(b']') + count(b'`') / 2) + 3,
             page_bytes: (6 * note.len() + 60).min(note.len() + 400),
             label: first_bracketed(&note).to_vec(),
             note,
+            sheet: Vec::new(),
+        }
+    }
+
+    /// The case with this sheet, and a row more for each `]:` of it.
+    fn beside(self, sheet: impl AsRef<[u8]>) -> Case {
+        let sheet = sheet.as_ref().to_vec();
+        Case {
+            definition_numbers: self.definition_numbers + DEFINITION_ROW_WIDTH * colons(&sheet),
+            sheet,
+            ..self
         }
     }
 
@@ -86,20 +101,27 @@ impl Case {
         }
     }
 
-    /// The case in the container: a header line of five numbers of six digits (numbers lent to the
+    /// The case in the container: a header line of six numbers of six digits (numbers lent to the
     /// definition table, numbers lent to the span table, bytes lent to the page, bytes of the note,
-    /// bytes of the label), the note and a line end, the label and a line end.
+    /// of the sheet and of the label), and the note, the sheet and the label, each with a line end.
     fn contained(&self) -> Vec<u8> {
         let header = format!(
-            "{:06} {:06} {:06} {:06} {:06}\n",
+            "{:06} {:06} {:06} {:06} {:06} {:06}",
             self.definition_numbers,
             self.span_numbers,
             self.page_bytes,
             self.note.len(),
+            self.sheet.len(),
             self.label.len()
         );
-        [header.as_bytes(), &self.note, b"\n", &self.label, b"\n"].concat()
+        let lines = [header.as_bytes(), &self.note, &self.sheet, &self.label];
+        lines.map(|line| [line, b"\n"].concat()).concat()
     }
+}
+
+/// How often `]:` stands in a text.
+fn colons(text: &[u8]) -> usize {
+    text.windows(2).filter(|two| *two == b"]:").count()
 }
 
 /// What stands from the first `[` to the next `]`, or to the end.
@@ -119,6 +141,8 @@ pub fn all() -> Vec<Case> {
         lines::cases(),
         characters::cases(),
         lending::cases(),
+        sheets::cases(),
+        sheet_refusals::cases(),
         enquiries::cases(),
         labels::cases(),
         chance::cases(),

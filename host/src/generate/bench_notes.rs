@@ -3,10 +3,21 @@
 use super::chance::Chance;
 use crate::second::LONGEST_NOTE;
 
-/// A note of the benchmark, with its name in the table of figures.
+/// A note of the benchmark, with its name in the table of figures and the sheet beside it.
 pub struct BenchNote {
     pub name: &'static str,
     pub bytes: Vec<u8>,
+    pub sheet: Vec<u8>,
+}
+
+impl BenchNote {
+    fn of(name: &'static str, note: String, sheet: String) -> BenchNote {
+        BenchNote {
+            name,
+            bytes: note.into_bytes(),
+            sheet: sheet.into_bytes(),
+        }
+    }
 }
 
 const WORDS: &[&str] = &[
@@ -26,10 +37,31 @@ pub fn all() -> Vec<BenchNote> {
 /// The same notes for a limit of `most` bytes in place of the longest note: all of them get shorter alike.
 pub fn of_size(most: usize) -> Vec<BenchNote> {
     let chance = &mut Chance::from_seed(7);
-    let share = |count: usize| count * most / LONGEST_NOTE;
+    let alone = alone(chance, most).into_iter();
+    let mut notes: Vec<BenchNote> = alone
+        .map(|(name, note)| BenchNote::of(name, note, String::new()))
+        .collect();
+    let limits = share(500, most);
+    notes.push(BenchNote::of(
+        "references_sheet",
+        references(chance, limits, String::new(), most),
+        definitions_of_limits(limits),
+    ));
+    notes
+}
+
+/// A count for the longest note, as it is for a limit of `most` bytes.
+fn share(count: usize, most: usize) -> usize {
+    count * most / LONGEST_NOTE
+}
+
+/// The notes with an empty sheet beside them.
+fn alone(chance: &mut Chance, most: usize) -> Vec<(&'static str, String)> {
+    let share = |count: usize| share(count, most);
     let repeated = |piece: &str| piece.repeat(most / piece.len());
-    let notes = vec![
-        ("references", references(chance, share(500), most)),
+    let own = definitions_of_limits(share(500)) + "\n";
+    vec![
+        ("references", references(chance, share(500), own, most)),
         ("backticks", backticks(most)),
         ("brackets", "[".repeat(share(1_024))),
         ("notice", notice(chance, share(16_000))),
@@ -52,23 +84,17 @@ pub fn of_size(most: usize) -> Vec<BenchNote> {
         ("empty_tails", repeated("[](")),
         ("bracket_words", repeated("[a] ")),
         ("deep_text", deep_text(share(1_000), most)),
-    ];
-    notes
-        .into_iter()
-        .map(|(name, note)| BenchNote {
-            name,
-            bytes: note.into_bytes(),
-        })
-        .collect()
+    ]
 }
 
-/// So many definitions, and references to them up to the limit.
-fn references(chance: &mut Chance, definitions: usize, most: usize) -> String {
-    let mut note = String::new();
-    for number in 0..definitions {
-        note += &format!("[limit {number}]: /q/{number}\n");
-    }
-    note += "\n";
+/// So many definitions.
+fn definitions_of_limits(count: usize) -> String {
+    let definition = |number| format!("[limit {number}]: /q/{number}\n");
+    (0..count).map(definition).collect()
+}
+
+/// References to so many definitions, after what the note starts with, up to the limit.
+fn references(chance: &mut Chance, definitions: usize, mut note: String, most: usize) -> String {
     let mut line = 0;
     loop {
         let reference = format!("[limit {}]", chance.below(definitions));

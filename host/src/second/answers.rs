@@ -3,17 +3,19 @@
 use std::ops::Range;
 
 use super::rows::{DefinitionRow, SpanRow};
+use super::source::Origin;
 
 /// The answer numbers: 0 for success, then the table of refusals.
 pub mod number {
     /// "Success is number 0".
     pub const SUCCESS: u32 = 0;
-    /// "note longer than 32,768 bytes"; with it "its length".
-    pub const NOTE_TOO_LONG: u32 = 1;
+    /// "note longer than 32,768 bytes", or the sheet; with it "its length".
+    pub const TEXT_TOO_LONG: u32 = 1;
     /// "byte 0 or 13, or ill-formed UTF-8"; with it "where reading from the start first meets no
     /// good character".
-    pub const NOTE_ILL_FORMED: u32 = 2;
-    /// "fewer whole definition rows lent than definitions"; with it "rows needed".
+    pub const TEXT_ILL_FORMED: u32 = 2;
+    /// "fewer whole definition rows lent than definitions", those of the note and of the sheet; with it
+    /// "rows needed".
     pub const FEW_DEFINITION_ROWS: u32 = 3;
     /// Some paragraph has over `MOST_BRACKETS_OPEN` brackets open at once; with it "place of the first
     /// bracket too many".
@@ -36,10 +38,12 @@ pub struct ReadAnswer {
     pub number: u32,
     /// What the refusal is returned with; 0 on success.
     pub value: usize,
-    /// How many definitions the note has; given on success, otherwise 0.
+    /// How many definitions the note and the sheet have; given on success, otherwise 0.
     pub definition_count: usize,
     /// How many spans the note has; given on success, otherwise 0.
     pub span_count: usize,
+    /// "which text, 0 the note, 1 the sheet; an answer about neither says 0" (document 02, request 1).
+    pub text: usize,
     /// The rows at the start of the definition table, or `None` where it is unchanged.
     pub definition_rows: Option<Vec<DefinitionRow>>,
     /// The rows at the start of the span table, or `None` where it is unchanged.
@@ -53,12 +57,14 @@ pub struct RenderAnswer {
     pub number: u32,
     /// What the refusal is returned with; 0 on success.
     pub value: usize,
-    /// How many definitions the note has; given on success, otherwise 0.
+    /// How many definitions the note and the sheet have; given on success, otherwise 0.
     pub definition_count: usize,
     /// How many spans the note has; given on success, otherwise 0.
     pub span_count: usize,
     /// The HTML's length; given on success, otherwise 0.
     pub page_length: usize,
+    /// "which text, 0 the note, 1 the sheet; an answer about neither says 0" (document 02, request 1).
+    pub text: usize,
     /// The rows at the start of the definition table, or `None` where it is unchanged.
     pub definition_rows: Option<Vec<DefinitionRow>>,
     /// The rows at the start of the span table, or `None` where it is unchanged.
@@ -74,15 +80,31 @@ pub struct ResolveAnswer {
     pub number: u32,
     /// The destination's start, or what the refusal is returned with.
     pub value: usize,
-    /// The destination as a part of the note; 0..0 on a refusal ("On a refusal the part is empty").
+    /// The destination "as a part of whichever of the two texts defines the label, named in its answer"
+    /// (document 02, request 1); 0..0 on a refusal ("On a refusal the part is empty").
     pub destination: Range<usize>,
+    /// The text that defines the label, or that a refusal is about: 0 the note, 1 the sheet.
+    pub text: usize,
 }
 
-/// A line of the table of refusals: its number and what is returned with it.
+/// A line of the table of refusals: its number, what is returned with it, and the text it names.
 #[derive(Clone, Copy, Debug, PartialEq, Eq)]
 pub(super) struct Refusal {
     pub number: u32,
     pub value: usize,
+    pub text: usize,
+}
+
+impl Refusal {
+    /// "an answer about neither says 0".
+    pub fn of(number: u32, value: usize) -> Refusal {
+        let text = Origin::Note.number();
+        Refusal {
+            number,
+            value,
+            text,
+        }
+    }
 }
 
 /// What is lent to a call: numbers of each table, and bytes of a page where one is asked for.
@@ -122,6 +144,7 @@ impl RenderAnswer {
             definition_count: counts.definitions,
             span_count: counts.spans,
             page_length: counts.page,
+            text: refusal.map_or(Origin::Note.number(), |refusal| refusal.text),
             definition_rows: left.definition_rows,
             span_rows: left.span_rows,
             page: left.page,
@@ -129,12 +152,13 @@ impl RenderAnswer {
     }
 
     /// The same from the reader, which has no page.
-    pub(super) fn without_page(self) -> ReadAnswer {
+    pub fn without_page(self) -> ReadAnswer {
         ReadAnswer {
             number: self.number,
             value: self.value,
             definition_count: self.definition_count,
             span_count: self.span_count,
+            text: self.text,
             definition_rows: self.definition_rows,
             span_rows: self.span_rows,
         }
@@ -169,12 +193,13 @@ impl ReadAnswer {
 }
 
 impl ResolveAnswer {
-    /// A destination that was found.
-    pub(super) fn found(destination: Range<usize>) -> ResolveAnswer {
+    /// A destination that was found, and the text in which.
+    pub(super) fn found(destination: Range<usize>, origin: Origin) -> ResolveAnswer {
         ResolveAnswer {
             number: number::SUCCESS,
             value: destination.start,
             destination,
+            text: origin.number(),
         }
     }
 
@@ -183,6 +208,7 @@ impl ResolveAnswer {
             number: refusal.number,
             value: refusal.value,
             destination: 0..0,
+            text: refusal.text,
         }
     }
 }

@@ -1,21 +1,29 @@
 //! Blocks, link reference definitions, and what is left of a block: its paragraph.
 
+use super::source::{Origin, Source};
 use super::text::{is_space, Descent, Part, Text};
 use super::wrong::Gap;
 use super::{Reader, Wrong};
 
-/// A definition with its label's compared form.
+/// A definition with the text that it stands in and its label's compared form.
 #[derive(Debug)]
-pub(super) struct Definition {
+pub(super) struct Definition<'t> {
+    pub source: &'t Source<'t>,
     pub label: Part,
     pub destination: Part,
     pub title: Option<Part>,
     pub compared_label: Vec<u8>,
 }
 
-/// What stands in a note: its definitions and its paragraphs, both in note order.
-pub(super) struct Outline {
-    pub definitions: Vec<Definition>,
+impl Definition<'_> {
+    pub fn is_of_sheet(&self) -> bool {
+        self.source.origin == Origin::Sheet
+    }
+}
+
+/// What stands in a text: its definitions and its paragraphs, both in its order.
+pub(super) struct Outline<'t> {
+    pub definitions: Vec<Definition<'t>>,
     pub paragraphs: Vec<Text>,
 }
 
@@ -79,32 +87,39 @@ impl Descent<'_> {
 }
 
 impl Reader {
-    /// The definitions and paragraphs of a note, block after block.
-    pub(super) fn outline(self, note: &str) -> Outline {
+    /// The definitions and paragraphs of a text, block after block.
+    pub(super) fn outline<'t>(self, source: &'t Source<'t>) -> Outline<'t> {
         let mut outline = Outline {
             definitions: Vec::new(),
             paragraphs: Vec::new(),
         };
-        for block in self.blocks(note) {
-            let start = self.take_definitions(note, block, &mut outline.definitions);
+        for block in self.blocks(source.text) {
+            let start = self.take_definitions(source, block, &mut outline.definitions);
             let left_over = Part { start, ..block };
-            outline.paragraphs.extend(self.paragraph(note, left_over));
+            let paragraph = self.paragraph(source.text, left_over);
+            outline.paragraphs.extend(paragraph);
         }
-        self.misread_repeats(&mut outline.definitions);
         outline
     }
 
     /// "From its first line, and from the block's bytes alone, definitions are taken while they can
     /// be". Answers where what is left over starts.
-    fn take_definitions(self, note: &str, block: Part, found: &mut Vec<Definition>) -> usize {
-        let text = Text::of_part(self, note, self.block_of_definitions(note, block));
+    fn take_definitions<'t>(
+        self,
+        source: &'t Source<'t>,
+        block: Part,
+        found: &mut Vec<Definition<'t>>,
+    ) -> usize {
+        let taken_from = self.block_of_definitions(source.text, block);
+        let text = Text::of_part(self, source.text, taken_from);
         let mut descent = Descent::from(&text, 0);
         while let Some((label, destination, title)) = descent.optionally(Descent::definition) {
             found.push(Definition {
+                source,
                 label,
                 destination,
                 title,
-                compared_label: self.compared_form(label.of(note).as_bytes()),
+                compared_label: self.compared_form(label.of(source.text).as_bytes()),
             });
             if self.misreads(Wrong::OneDefinitionABlock) {
                 break;
@@ -114,22 +129,22 @@ impl Reader {
     }
 
     /// "bytes left over, if any, less a final LF, are a paragraph."
-    fn paragraph(self, note: &str, mut left_over: Part) -> Option<Text> {
-        let has_final = left_over.of(note).ends_with('\n');
+    fn paragraph(self, whole: &str, mut left_over: Part) -> Option<Text> {
+        let has_final = left_over.of(whole).ends_with('\n');
         if has_final && !self.misreads(Wrong::FinalLineFeedKept) {
             left_over.end -= 1;
         }
-        let left_over = self.misread_paragraph(note, left_over);
-        (left_over.start < left_over.end).then(|| Text::of_part(self, note, left_over))
+        let left_over = self.misread_paragraph(whole, left_over);
+        (left_over.start < left_over.end).then(|| Text::of_part(self, whole, left_over))
     }
 
     /// "A blank line has only spaces and tabs. A block is a maximal run of other lines." Each line
     /// stands here with its LF.
-    fn blocks(self, note: &str) -> Vec<Part> {
+    fn blocks(self, whole: &str) -> Vec<Part> {
         let mut blocks: Vec<Part> = Vec::new();
         let mut inside_block = false;
         let mut start = 0;
-        for line in note.split_inclusive('\n') {
+        for line in whole.split_inclusive('\n') {
             let end = start + line.len();
             let blank = self.is_blank(line);
             match blocks.last_mut() {
@@ -162,16 +177,30 @@ impl Reader {
         self.misreads(Wrong::DefinitionAfterText) && starts_definition()
     }
 
-    /// The number, from 1, of the definition a label names: "In a lookup the search stops at the
-    /// first equal label."
+    /// The joined list: "the note's definitions first, then the sheet's" (document 02, request 1).
+    pub(super) fn joined<'t>(
+        self,
+        note: Vec<Definition<'t>>,
+        sheet: Vec<Definition<'t>>,
+    ) -> Vec<Definition<'t>> {
+        let mut joined: Vec<Definition> = note.into_iter().chain(sheet).collect();
+        self.misread_repeats(&mut joined);
+        joined
+    }
+
+    /// The number, from 1, of the definition in the list that a label names: "In a lookup the search
+    /// stops at the first equal label."
     pub(super) fn look_up(self, definitions: &[Definition], label: &str) -> Option<usize> {
         let wanted = self.compared_form(label.as_bytes());
         let mut equal = definitions
             .iter()
             .enumerate()
             .filter(|(_, definition)| definition.compared_label == wanted);
+        let of_sheet = |(_, definition): &(usize, &Definition)| definition.is_of_sheet();
         let found = if self.misreads(Wrong::LastDefinition) {
             equal.last()
+        } else if self.misreads(Wrong::SheetLookedUpFirst) {
+            equal.clone().find(of_sheet).or_else(|| equal.next())
         } else {
             equal.next()
         };

@@ -1,5 +1,7 @@
 //! A paragraph's marking: its pieces, pairs and links.
 
+use super::definitions::Definition;
+use super::source::Source;
 use super::tails::{Tail, Tails};
 use super::text::Text;
 use super::wrong::Within;
@@ -43,23 +45,39 @@ pub(super) struct Pair {
 
 /// A pair that is a link, with its tail.
 #[derive(Debug)]
-pub(super) struct Link {
+pub(super) struct Link<'t> {
     pub pair: Pair,
-    pub tail: Tail,
+    pub tail: Tail<'t>,
 }
 
-/// A paragraph with its pieces, pairs and links.
+/// A paragraph with its pieces, pairs and links, and the text that it stands in.
 pub(super) struct Marking<'t> {
+    pub source: &'t Source<'t>,
     pub text: &'t Text,
     pub pieces: Vec<Piece>,
     pub pairs: Vec<Pair>,
-    pub links: Vec<Link>,
+    pub links: Vec<Link<'t>>,
+}
+
+/// The markings of a text's paragraphs.
+pub(super) fn mark_each<'t>(
+    source: &'t Source<'t>,
+    paragraphs: &'t [Text],
+    definitions: &'t [Definition<'t>],
+) -> Vec<Marking<'t>> {
+    let tails = |text| Tails {
+        source,
+        definitions,
+        text,
+    };
+    paragraphs.iter().map(|text| mark(tails(text))).collect()
 }
 
 /// Marks a paragraph: piece after piece from its start, for "The paragraph is tiled by the pieces",
 /// and at each closing piece its pair and its link, if it makes them.
-pub(super) fn mark(tails: Tails) -> Marking {
+fn mark<'t>(tails: Tails<'t, 't>) -> Marking<'t> {
     let mut marking = Marking {
+        source: tails.source,
         text: tails.text,
         pieces: Vec::new(),
         pairs: Vec::new(),
@@ -148,7 +166,7 @@ fn partner(pieces: &[Piece], closing: usize) -> Option<usize> {
     None
 }
 
-impl Marking<'_> {
+impl<'t> Marking<'t> {
     fn misreads(&self, wrong: Wrong) -> bool {
         self.text.reader.misreads(wrong)
     }
@@ -156,7 +174,7 @@ impl Marking<'_> {
     /// Pairs the last piece, which closes, and makes the pair a link if it is one: "A pair is a link
     /// exactly when no link lies between its two brackets and it has a tail." Answers where the
     /// link's tail ends.
-    fn close(&mut self, tails: Tails) -> Option<usize> {
+    fn close(&mut self, tails: Tails<'t, '_>) -> Option<usize> {
         let closing = self.pieces.len() - 1;
         let opening = partner(&self.pieces, closing)?;
         let pair = Pair { opening, closing };

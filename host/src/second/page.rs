@@ -10,13 +10,13 @@ use super::{Reader, Wrong};
 
 impl Marking<'_> {
     /// "Each paragraph: `<p>`, content, `</p>`, LF."
-    pub fn html(&self, note: &str) -> String {
+    pub fn html(&self) -> String {
         let links: BTreeMap<usize, &Link> = self
             .links
             .iter()
             .map(|link| (link.pair.opening, link))
             .collect();
-        let content = self.content(note, &links, 0, self.pieces.len());
+        let content = self.content(&links, 0, self.pieces.len());
         if self.text.reader.misreads(Wrong::NoLineFeedAfterParagraph) {
             format!("<p>{content}</p>")
         } else {
@@ -25,24 +25,18 @@ impl Marking<'_> {
     }
 
     /// The HTML of the pieces from one index to another; the links are given by opening piece.
-    fn content(
-        &self,
-        note: &str,
-        links: &BTreeMap<usize, &Link>,
-        from: usize,
-        to: usize,
-    ) -> String {
+    fn content(&self, links: &BTreeMap<usize, &Link>, from: usize, to: usize) -> String {
         let mut html = String::new();
         let mut index = from;
         while index < to {
             if let Some(link) = links.get(&index) {
-                html += &self.text.reader.opening_tag(note, link.tail.target);
-                html += &self.link_text(note, links, link);
+                html += &self.text.reader.opening_tag(link.tail.target);
+                html += &self.link_text(links, link);
                 html += "</a>";
                 // On past the closing bracket and its tail.
                 index = link.pair.closing + 2;
             } else {
-                html += &self.piece_html(note, self.pieces[index]);
+                html += &self.piece_html(self.pieces[index]);
                 index += 1;
             }
         }
@@ -50,20 +44,21 @@ impl Marking<'_> {
     }
 
     /// The HTML between the two brackets of a link.
-    fn link_text(&self, note: &str, links: &BTreeMap<usize, &Link>, link: &Link) -> String {
+    fn link_text(&self, links: &BTreeMap<usize, &Link>, link: &Link) -> String {
         if self.text.reader.misreads(Wrong::LinkTextAsItStands) {
             let opening = self.pieces[link.pair.opening];
             let closing = self.pieces[link.pair.closing];
-            let source = self.text.part(opening.to, closing.from).of(note);
-            return self.text.reader.escape_html(source, Written::Text);
+            let inside = self.text.part(opening.to, closing.from);
+            let inside = inside.of(self.source.text);
+            return self.text.reader.escape_html(inside, Written::Text);
         }
-        self.content(note, links, link.pair.opening + 1, link.pair.closing)
+        self.content(links, link.pair.opening + 1, link.pair.closing)
     }
 
     /// The HTML of a piece that is no part of a link's own marks.
-    fn piece_html(&self, note: &str, piece: Piece) -> String {
+    fn piece_html(&self, piece: Piece) -> String {
         let reader = self.text.reader;
-        let source = |from, to| self.text.part(from, to).of(note);
+        let source = |from, to| self.text.part(from, to).of(self.source.text);
         match piece.kind {
             PieceKind::Code(backticks) => {
                 let inside = source(piece.from + backticks, piece.to - backticks);
@@ -84,12 +79,16 @@ impl Marking<'_> {
 }
 
 impl Reader {
-    /// "Links: `<a href="D" title="T">text</a>`; an absent or empty title has no attribute."
-    fn opening_tag(self, note: &str, target: Target) -> String {
-        let source = |part: Option<Part>| part.map_or("", |part| part.of(note));
-        let destination = self.undo_escapes(source(target.destination), Written::Destination);
-        let href = self.escape_destination(&destination);
-        let title = self.undo_escapes(source(target.title), Written::Title);
+    /// "Links: `<a href="D" title="T">text</a>`; an absent or empty title has no attribute." Both are taken
+    /// from the text in which they lie.
+    fn opening_tag(self, target: Target) -> String {
+        let undone = |part: Option<Part>, written: Written| {
+            let misread = part.and_then(|part| self.misread_bytes(target, part, written));
+            let bytes = part.map_or("", |part| part.of(target.source.text));
+            self.undo_escapes(misread.as_deref().unwrap_or(bytes), written)
+        };
+        let href = self.escape_destination(&undone(target.destination, Written::Destination));
+        let title = undone(target.title, Written::Title);
         let title = self.escape_html(&title, Written::Title);
         let absent = if self.misreads(Wrong::EmptyTitleWritten) {
             target.title.is_none()

@@ -2,31 +2,32 @@
 
 use super::definitions::Definition;
 use super::rows::{kind, Target};
-use super::text::{Descent, Text};
+use super::source::Source;
+use super::text::{Descent, Part, Text};
 use super::wrong::Gap;
 use super::Wrong;
 
 /// A tail as read: the kind of link it makes, where it ends in the paragraph's characters, and
 /// where the link leads.
 #[derive(Debug)]
-pub(super) struct Tail {
+pub(super) struct Tail<'t> {
     pub kind: u32,
     pub to: usize,
-    pub target: Target,
+    pub target: Target<'t>,
 }
 
-/// What a tail is read by: the note, its definitions, and the paragraph.
+/// What a tail is read by: the text it stands in, the definitions, and the paragraph.
 #[derive(Clone, Copy)]
-pub(super) struct Tails<'t> {
-    pub note: &'t str,
-    pub definitions: &'t [Definition],
-    pub text: &'t Text,
+pub(super) struct Tails<'t, 'p> {
+    pub source: &'t Source<'t>,
+    pub definitions: &'t [Definition<'t>],
+    pub text: &'p Text,
 }
 
 impl Descent<'_> {
     /// "`(`, optional space, optionally a destination and after it optionally at least one byte of
-    /// space and a title, optional space, `)`: inline."
-    fn inline_tail(&mut self) -> Option<Target> {
+    /// space and a title, optional space, `)`: inline." Answers destination and title.
+    fn inline_tail(&mut self) -> Option<(Option<Part>, Option<Part>)> {
         self.exactly('(')?;
         self.optional_space(Gap::TailStart);
         let destination = self.optionally(Descent::destination);
@@ -39,15 +40,11 @@ impl Descent<'_> {
         if destination.is_none() && self.misreads(Wrong::DestinationNeeded) {
             return None;
         }
-        Some(Target {
-            definition: 0,
-            destination,
-            title,
-        })
+        Some((destination, title))
     }
 }
 
-impl Tails<'_> {
+impl<'t> Tails<'t, '_> {
     fn misreads(&self, wrong: Wrong) -> bool {
         self.text.reader.misreads(wrong)
     }
@@ -55,15 +52,15 @@ impl Tails<'_> {
     /// The tail of a pair: "what follows the closing bracket is read on its own, to the paragraph's
     /// end at most, first match only". The text of the pair lies between `text_from` and `text_to`,
     /// where the closing bracket stands.
-    pub fn after(&self, text_from: usize, text_to: usize) -> Option<Tail> {
+    pub fn after(&self, text_from: usize, text_to: usize) -> Option<Tail<'t>> {
         if self.misreads(Wrong::TailPastParagraph) {
-            let text = &self.text.to_note_end(self.note);
+            let text = &self.text.to_end(self.source.text);
             return Tails { text, ..*self }.first_match(text_from, text_to);
         }
         self.first_match(text_from, text_to)
     }
 
-    fn first_match(&self, text_from: usize, text_to: usize) -> Option<Tail> {
+    fn first_match(&self, text_from: usize, text_to: usize) -> Option<Tail<'t>> {
         let mut after = Descent::from(self.text, text_to + 1);
         if self.misreads(Wrong::SpaceBeforeTail) {
             let _ = after.exactly(' ');
@@ -78,18 +75,23 @@ impl Tails<'_> {
     }
 
     /// 1. "inline".
-    fn inline(&self, mut descent: Descent) -> Option<Tail> {
-        let target = descent.inline_tail()?;
+    fn inline(&self, mut descent: Descent) -> Option<Tail<'t>> {
+        let (destination, title) = descent.inline_tail()?;
         Some(Tail {
             kind: kind::INLINE,
             to: descent.at,
-            target,
+            target: Target {
+                source: self.source,
+                definition: 0,
+                destination,
+                title,
+            },
         })
     }
 
     /// 2. "full if defined, that is, if some definition has an equal label; if not, there is no
     /// tail at all." Otherwise the third rule is tried.
-    fn reference(&self, text_from: usize, text_to: usize, after: Descent) -> Option<Tail> {
+    fn reference(&self, text_from: usize, text_to: usize, after: Descent) -> Option<Tail<'t>> {
         if after.next() == Some('(') && self.misreads(Wrong::BadInlineNoTail) {
             return None;
         }
@@ -102,7 +104,7 @@ impl Tails<'_> {
         } else {
             label
         };
-        match self.look_up(label.of(self.note)) {
+        match self.look_up(label.of(self.source.text)) {
             None if self.misreads(Wrong::UndefinedFallsBack) => {
                 self.by_text(text_from, text_to, after)
             }
@@ -112,13 +114,13 @@ impl Tails<'_> {
 
     /// 3. "The text between the brackets is a defined label: collapsed if `[]` follows (the tail),
     /// else shortcut, empty tail."
-    fn by_text(&self, text_from: usize, text_to: usize, after: Descent) -> Option<Tail> {
+    fn by_text(&self, text_from: usize, text_to: usize, after: Descent) -> Option<Tail<'t>> {
         let reader = self.text.reader;
         let checked = !self.misreads(Wrong::TextUnchecked);
         if checked && text_to - text_from > reader.longest_label() {
             return None;
         }
-        let own_text = self.text.part(text_from, text_to).of(self.note);
+        let own_text = self.text.part(text_from, text_to).of(self.source.text);
         if checked && !reader.is_label(own_text) {
             return None;
         }
@@ -144,11 +146,14 @@ impl Tails<'_> {
         reader.look_up(seen, label)
     }
 
-    /// The tail of a reference: "its destination and title are that definition's".
-    fn to_definition(&self, kind: u32, to: usize, definition: usize) -> Tail {
+    /// The tail of a reference: "its destination and title are that definition's", and their "places lie in
+    /// the text that its definition row names" (document 02, request 1).
+    fn to_definition(&self, kind: u32, to: usize, definition: usize) -> Tail<'t> {
         let named = &self.definitions[definition - 1];
+        let reader = self.text.reader;
         let target = Target {
-            definition,
+            source: named.source,
+            definition: reader.misread_definition_number(self.definitions, definition),
             destination: Some(named.destination),
             title: named.title,
         };

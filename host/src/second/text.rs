@@ -1,35 +1,13 @@
-//! Good characters, parts of a note, and the descent through a text.
+//! Good characters, parts of a text, and the descent through a text.
 
-use super::answers::{number, Refusal};
 use super::wrong::{Gap, Within};
 use super::{Reader, Wrong};
 
-/// "A note is bytes, 0 to 32,768 of them".
+/// "A note is bytes, 0 to 32,768 of them"; document 02, request 1: "The sheet is a second text under the
+/// same limits".
 pub const LONGEST_NOTE: usize = 32_768;
 
 impl Reader {
-    fn longest_note(self) -> usize {
-        self.limit(LONGEST_NOTE, Wrong::NoteOneShorter, Wrong::NoteOneLonger)
-    }
-
-    /// Refusals 1 and 2.
-    pub(super) fn checked_note(self, note: &[u8]) -> Result<&str, Refusal> {
-        let text = self.good_text(note).map_err(|place| Refusal {
-            number: number::NOTE_ILL_FORMED,
-            value: place,
-        });
-        if self.misreads(Wrong::IllFormedBeforeTooLong) && text.is_err() {
-            return text;
-        }
-        if self.counted_length(note) > self.longest_note() {
-            return Err(Refusal {
-                number: number::NOTE_TOO_LONG,
-                value: note.len(),
-            });
-        }
-        text
-    }
-
     /// The bytes as text, or "where reading from the start first meets no good character": the byte
     /// 0 or 13, or the first byte of the ill-formed sequence. "UTF-8 is that of the Unicode
     /// standard, table 3-7", which is also the standard library's.
@@ -52,7 +30,8 @@ impl Reader {
     }
 }
 
-/// A part of the note: "Ends are exclusive, places count from the note's start."
+/// A part of a text: "Ends are exclusive, places count from the note's start", or from the sheet's where
+/// the part lies there.
 #[derive(Clone, Copy, Debug, PartialEq, Eq)]
 pub(super) struct Part {
     pub start: usize,
@@ -61,12 +40,12 @@ pub(super) struct Part {
 
 impl Part {
     /// The part's own text.
-    pub fn of(self, note: &str) -> &str {
-        &note[self.start..self.end]
+    pub fn of(self, whole: &str) -> &str {
+        &whole[self.start..self.end]
     }
 }
 
-/// A part of the note as a list of its characters, each with its place, for one reader.
+/// A part of a text as a list of its characters, each with its place, for one reader.
 #[derive(Clone, Debug)]
 pub(super) struct Text {
     pub reader: Reader,
@@ -75,12 +54,12 @@ pub(super) struct Text {
 }
 
 impl Text {
-    /// The characters of `part` of the note.
-    pub fn of_part(reader: Reader, note: &str, part: Part) -> Text {
+    /// The characters of `part` of the whole text.
+    pub fn of_part(reader: Reader, whole: &str, part: Part) -> Text {
         Text {
             reader,
             characters: part
-                .of(note)
+                .of(whole)
                 .char_indices()
                 .map(|(offset, character)| (part.start + offset, character))
                 .collect(),
@@ -88,13 +67,13 @@ impl Text {
         }
     }
 
-    /// The text and what follows it in the note.
-    pub fn to_note_end(&self, note: &str) -> Text {
+    /// The text and what follows it in the whole text.
+    pub fn to_end(&self, whole: &str) -> Text {
         let part = Part {
             start: self.place(0),
-            end: note.len(),
+            end: whole.len(),
         };
-        Text::of_part(self.reader, note, part)
+        Text::of_part(self.reader, whole, part)
     }
 
     /// A text that stands by itself.

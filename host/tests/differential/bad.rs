@@ -1,9 +1,10 @@
 //! Bad input of every kind.
 
-use crate::compare::{self, Lending};
+use crate::compare::{self, Lending, Named, Texts};
+use crate::named::must;
 use host::second::{DEFINITION_ROW_WIDTH, SPAN_ROW_WIDTH};
 
-/// Lendings for notes that are refused whatever is lent: nothing, parts of a row, rows.
+/// Lendings for texts that are refused whatever is lent: nothing, parts of a row, rows.
 const LENDINGS: [Lending; 3] = [
     Lending {
         definition_numbers: 0,
@@ -44,7 +45,7 @@ const BAD: [&str; 9] = [
 ];
 
 /// The bytes of `BAD`.
-fn bad() -> Vec<Vec<u8>> {
+pub fn bad() -> Vec<Vec<u8>> {
     let digits = |text: &str| {
         let byte = |place| u8::from_str_radix(&text[place..place + 2], 16);
         let bytes = (0..text.len()).step_by(2).map(byte);
@@ -62,20 +63,19 @@ const BOUNDS: &[u8] = &[
     0xed, 0xee, 0xef, 0xf0, 0xf1, 0xf3, 0xf4, 0xf5, 0xff,
 ];
 
-/// Through all three entries; returns what the reader's number is with enough lent.
-fn compare_all(note: &[u8], label: &[u8]) -> u32 {
-    let shown = || note[..note.len().min(80)].escape_ascii().to_string();
-    let must = |compared: compare::Compared| {
-        compared
-            .unwrap_or_else(|what| panic!("note of {} bytes \"{}\"\n{what}", note.len(), shown()))
-    };
-    must(compare::resolve(note, label));
-    let mut number = 0;
+/// Through all three entries; returns what the reader answers with enough lent.
+pub fn compare_texts(texts: Texts, label: &[u8]) -> Named {
+    let mut named = must(texts, compare::resolve(texts, label));
     for lending in LENDINGS {
-        number = must(compare::read(note, lending));
-        must(compare::render(note, lending));
+        named = must(texts, compare::read(texts, lending));
+        must(texts, compare::render(texts, lending));
     }
-    number
+    named
+}
+
+/// The same of a note alone; returns the number.
+fn compare_all(note: &[u8], label: &[u8]) -> u32 {
+    compare_texts(Texts::alone(note), label).number
 }
 
 #[test]
@@ -93,13 +93,13 @@ fn lengths() {
     // Each takes the second reader long, so once only.
     for byte in [b'`', b']'] {
         let note = vec![byte; 32_768];
-        compare::render(&note, LENDINGS[2]).unwrap();
+        compare::render(Texts::alone(&note), LENDINGS[2]).unwrap();
     }
 }
 
 #[test]
 fn labels_of_every_length() {
-    let note = b"[a]: b\n[\xc3\xa9 c]: d\n";
+    let note = Texts::alone(b"[a]: b\n[\xc3\xa9 c]: d\n");
     for piece in ["a", "é", " ", "\\", "\\]", "]", "[", "€", "😀"] {
         for count in [0, 1, 2, 499, 500, 998, 999, 1_000, 1_001, 32_768, 1 << 20] {
             let label = piece.repeat(count);
@@ -141,6 +141,7 @@ fn bad_bytes_in_notes() {
 #[test]
 fn bad_bytes_in_labels() {
     let note = b"[a]: b\n[a ]: c\n";
+    let alone = Texts::alone(note);
     for bad in &bad() {
         let labels: [&[&[u8]]; 4] = [
             &[bad],
@@ -149,16 +150,18 @@ fn bad_bytes_in_labels() {
             &["é".as_bytes(), bad],
         ];
         for label in labels {
-            let number = compare::resolve(note, &label.concat());
-            assert_eq!(number, Ok(8), "{bad:x?}");
+            let named = must(alone, compare::resolve(alone, &label.concat()));
+            assert_eq!(named.number, 8, "{bad:x?}");
         }
         // The note's refusals come first.
-        let number = compare::resolve(&[note, bad.as_slice()].concat(), bad);
-        assert_eq!(number, Ok(2), "{bad:x?}");
+        let spoilt = [note, bad.as_slice()].concat();
+        let spoilt = Texts::alone(&spoilt);
+        let named = must(spoilt, compare::resolve(spoilt, bad));
+        assert_eq!(named.number, 2, "{bad:x?}");
     }
 }
 
-/// Every text of so many bytes of the list, as note and as label.
+/// Every text of so many bytes of the list, as note, as sheet and as label.
 fn every_text(bytes: &[u8], length: u32) {
     for index in 0..bytes.len().pow(length) {
         let mut rest = index;
@@ -167,8 +170,13 @@ fn every_text(bytes: &[u8], length: u32) {
             text.push(bytes[rest % bytes.len()]);
             rest /= bytes.len();
         }
-        let compared =
-            compare::read(&text, LENDINGS[0]).and_then(|_| compare::resolve(b"[a]: b", &text));
+        let beside = Texts {
+            note: b"",
+            sheet: &text,
+        };
+        let compared = compare::read(Texts::alone(&text), LENDINGS[0])
+            .and_then(|_| compare::read(beside, LENDINGS[0]))
+            .and_then(|_| compare::resolve(Texts::alone(b"[a]: b"), &text));
         compared.unwrap_or_else(|what| panic!("{text:x?}\n{what}"));
     }
 }

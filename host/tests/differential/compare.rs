@@ -2,7 +2,35 @@
 
 use crate::lent::{byte_guard, number_guard, Lent};
 use host::entries::{self, Enquiry, Reading, Rendering};
-use host::second::{self, ReadAnswer, RenderAnswer, ResolveAnswer};
+use host::second::{self, alone, ReadAnswer, RenderAnswer, ResolveAnswer};
+
+/// The two texts of a call.
+#[derive(Clone, Copy)]
+pub struct Texts<'t> {
+    pub note: &'t [u8],
+    pub sheet: &'t [u8],
+}
+
+impl<'t> Texts<'t> {
+    /// A note with an empty sheet beside it.
+    pub fn alone(note: &'t [u8]) -> Texts<'t> {
+        Texts { note, sheet: b"" }
+    }
+
+    /// The text with this number.
+    pub fn text(self, number: u32) -> &'t [u8] {
+        [self.note, self.sheet][number as usize]
+    }
+
+    /// Both, as far as they are short, for a person.
+    pub fn shown(self) -> String {
+        let [note, sheet] = [self.note, self.sheet].map(|text| {
+            let start = &text[..text.len().min(400)];
+            format!("{} bytes \"{}\"", text.len(), start.escape_ascii())
+        });
+        format!("note of {note}, sheet of {sheet}")
+    }
+}
 
 /// How much is lent to a call.
 #[derive(Clone, Copy, Debug, PartialEq, Eq)]
@@ -12,8 +40,42 @@ pub struct Lending {
     pub page_bytes: usize,
 }
 
-/// What a comparison gives: the answer's number, or what differs.
-pub type Compared = Result<u32, String>;
+impl Lending {
+    /// The numbers of the definition table where a row has no leading number: of as many whole rows.
+    fn definition_numbers_alone(self) -> usize {
+        self.definition_numbers / second::DEFINITION_ROW_WIDTH * alone::DEFINITION_ROW_WIDTH
+    }
+}
+
+/// The number of an answer, and the text that it names.
+#[derive(Clone, Copy, Debug, PartialEq, Eq)]
+pub struct Named {
+    pub number: u32,
+    pub text: u32,
+}
+
+/// What a comparison gives: what was answered, or what differs.
+pub type Compared = Result<Named, String>;
+
+/// Memory that is only read: the note and the sheet.
+struct Read {
+    note: Lent<u8>,
+    sheet: Lent<u8>,
+}
+
+impl Read {
+    fn lent(texts: Texts) -> Read {
+        Read {
+            note: Lent::bytes(texts.note),
+            sheet: Lent::bytes(texts.sheet),
+        }
+    }
+
+    fn same(&self, texts: Texts) -> Result<(), String> {
+        self.note.same("note", texts.note)?;
+        self.sheet.same("sheet", texts.sheet)
+    }
+}
 
 /// The two tables of a call.
 struct Tables {
@@ -37,12 +99,29 @@ impl Tables {
     }
 }
 
-/// The reader.
-pub fn read(note: &[u8], lending: Lending) -> Compared {
-    let mut text = Lent::bytes(note);
+/// The reader. With an empty sheet the answer is held against the one for the note alone.
+pub fn read(texts: Texts, lending: Lending) -> Compared {
+    let Texts { note, sheet } = texts;
+    let Lending {
+        definition_numbers,
+        span_numbers,
+        ..
+    } = lending;
+    let wanted = if sheet.is_empty() {
+        let numbers = lending.definition_numbers_alone();
+        let old = alone::read(note, numbers, span_numbers);
+        old.with_empty_sheet().without_page()
+    } else {
+        second::read(note, sheet, definition_numbers, span_numbers)
+    };
+    let mut lent = Read::lent(texts);
     let mut tables = Tables::lent(lending);
-    let given = entries::read(text.part(), tables.definitions.part(), tables.spans.part());
-    let wanted = second::read(note, lending.definition_numbers, lending.span_numbers);
+    let given = entries::read(
+        lent.note.part(),
+        lent.sheet.part(),
+        tables.definitions.part(),
+        tables.spans.part(),
+    );
     let after = |definitions: &[u32], spans: &[u32]| {
         (
             wanted.definition_table(definitions),
@@ -50,28 +129,24 @@ pub fn read(note: &[u8], lending: Lending) -> Compared {
         )
     };
     same(&given, &reading(&wanted))
-        .and_then(|()| text.same("note", note))
+        .and_then(|()| lent.same(texts))
         .and_then(|()| tables.same(after))
         .map_err(|what| format!("read with {lending:?}\n{what}"))?;
-    Ok(wanted.number)
+    Ok(named(wanted.number, wanted.text))
 }
 
-/// The page writer.
-pub fn render(note: &[u8], lending: Lending) -> Compared {
-    let mut text = Lent::bytes(note);
+/// The page writer, likewise.
+pub fn render(texts: Texts, lending: Lending) -> Compared {
+    let wanted = wanted_rendering(texts, lending);
+    let mut lent = Read::lent(texts);
     let mut tables = Tables::lent(lending);
     let mut page = Lent::of(lending.page_bytes, byte_guard);
     let given = entries::render(
-        text.part(),
+        lent.note.part(),
+        lent.sheet.part(),
         tables.definitions.part(),
         tables.spans.part(),
         page.part(),
-    );
-    let wanted = second::render(
-        note,
-        lending.definition_numbers,
-        lending.span_numbers,
-        lending.page_bytes,
     );
     let after = |definitions: &[u32], spans: &[u32]| {
         (
@@ -80,28 +155,48 @@ pub fn render(note: &[u8], lending: Lending) -> Compared {
         )
     };
     same(&given, &rendering(&wanted))
-        .and_then(|()| text.same("note", note))
+        .and_then(|()| lent.same(texts))
         .and_then(|()| tables.same(after))
         .and_then(|()| page.same("page", &wanted.page_buffer(page.before())))
         .map_err(|what| format!("render with {lending:?}\n{what}"))?;
-    Ok(wanted.number)
+    Ok(named(wanted.number, wanted.text))
 }
 
-/// The enquiry.
-pub fn resolve(note: &[u8], label: &[u8]) -> Compared {
-    let mut text = Lent::bytes(note);
+fn wanted_rendering(texts: Texts, lending: Lending) -> RenderAnswer {
+    let Texts { note, sheet } = texts;
+    let Lending {
+        definition_numbers,
+        span_numbers,
+        page_bytes,
+    } = lending;
+    if sheet.is_empty() {
+        let numbers = lending.definition_numbers_alone();
+        let old = alone::render(note, numbers, span_numbers, page_bytes);
+        return old.with_empty_sheet();
+    }
+    second::render(note, sheet, definition_numbers, span_numbers, page_bytes)
+}
+
+/// The enquiry, likewise.
+pub fn resolve(texts: Texts, label: &[u8]) -> Compared {
+    let Texts { note, sheet } = texts;
+    let wanted = if sheet.is_empty() {
+        alone::resolve(note, label).with_empty_sheet()
+    } else {
+        second::resolve(note, sheet, label)
+    };
+    let mut lent = Read::lent(texts);
     let mut asked = Lent::bytes(label);
-    let given = entries::resolve(text.part(), asked.part());
-    let wanted = second::resolve(note, label);
+    let given = entries::resolve(lent.note.part(), lent.sheet.part(), asked.part());
     same(&given, &enquiry(&wanted))
-        .and_then(|()| text.same("note", note))
+        .and_then(|()| lent.same(texts))
         .and_then(|()| asked.same("label", label))
         .map_err(|what| format!("resolve of \"{}\"\n{what}", label.escape_ascii()))?;
-    Ok(wanted.number)
+    Ok(named(wanted.number, wanted.text))
 }
 
-/// The comparison of two labels.
-pub fn same_label(a: &[u8], b: &[u8]) -> Compared {
+/// The comparison of two labels: 1 where they are equal, else 0.
+pub fn same_label(a: &[u8], b: &[u8]) -> Result<u32, String> {
     let [mut one, mut other] = [a, b].map(Lent::bytes);
     let given = entries::same_label(one.part(), other.part());
     let wanted = u32::from(second::same_label(a, b));
@@ -125,30 +220,40 @@ fn same<T: PartialEq + std::fmt::Debug>(given: &T, wanted: &T) -> Result<(), Str
     ))
 }
 
-fn reading(answer: &ReadAnswer) -> Reading {
+fn named(number: u32, text: usize) -> Named {
+    Named {
+        number,
+        text: text as u32,
+    }
+}
+
+pub fn reading(answer: &ReadAnswer) -> Reading {
     Reading {
         number: answer.number,
         value: answer.value as u64,
         definitions: answer.definition_count as u64,
         spans: answer.span_count as u64,
+        text: answer.text as u64,
     }
 }
 
-fn rendering(answer: &RenderAnswer) -> Rendering {
+pub fn rendering(answer: &RenderAnswer) -> Rendering {
     Rendering {
         number: answer.number,
         value: answer.value as u64,
         definitions: answer.definition_count as u64,
         spans: answer.span_count as u64,
         length: answer.page_length as u64,
+        text: answer.text as u64,
     }
 }
 
-fn enquiry(answer: &ResolveAnswer) -> Enquiry {
+pub fn enquiry(answer: &ResolveAnswer) -> Enquiry {
     Enquiry {
         number: answer.number,
         value: answer.value as u64,
         start: answer.destination.start as u64,
         end: answer.destination.end as u64,
+        text: answer.text as u64,
     }
 }

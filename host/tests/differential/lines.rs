@@ -1,8 +1,8 @@
 //! Lines: spans and definitions over several lines, in several paragraphs, and brackets that are open while
 //! lines go by.
 
-use crate::compare::Lending;
-use crate::named::{compare_at_every_size, compare_long, compare_with};
+use crate::compare::{Lending, Texts};
+use crate::named::{compare_at_every_size, compare_long_note, compare_with};
 use crate::random::every_note;
 use crate::trial::Need;
 use host::second::{DEFINITION_ROW_WIDTH, LONGEST_NOTE, MOST_BRACKETS_OPEN, SPAN_ROW_WIDTH};
@@ -37,26 +37,32 @@ fn over_several_paragraphs() {
     let notes = notes();
     assert_eq!(notes.len(), 60);
     for note in notes {
-        compare_at_every_size(note.as_bytes());
+        compare_at_every_size(Texts::alone(note.as_bytes()));
     }
 }
 
-/// Tables with room for each number of rows, from none to one more than needed.
+/// Definition tables with room for each number of rows, from none to one more than needed, and all else as
+/// needed.
+pub fn definition_tables(need: &Need) -> impl Iterator<Item = Lending> {
+    let exactly = need.exactly();
+    (0..need.definitions.len() + 2).map(move |rows| Lending {
+        definition_numbers: rows * DEFINITION_ROW_WIDTH,
+        ..exactly
+    })
+}
+
 #[test]
 fn every_number_of_rows() {
     for note in notes() {
-        let note = note.as_bytes();
-        let need = Need::of(note);
+        let texts = Texts::alone(note.as_bytes());
+        let need = Need::of(texts);
         let exactly = need.exactly();
-        let definitions = (0..need.definitions.len() + 2).map(|rows| Lending {
-            definition_numbers: rows * DEFINITION_ROW_WIDTH,
-            ..exactly
-        });
+        let definitions = definition_tables(&need);
         let spans = (0..need.spans.len() + 2).map(|rows| Lending {
             span_numbers: rows * SPAN_ROW_WIDTH,
             ..exactly
         });
-        let came_up = compare_with(note, &definitions.chain(spans).collect::<Vec<_>>());
+        let came_up = compare_with(texts, &definitions.chain(spans).collect::<Vec<_>>());
         assert_eq!(came_up[3], need.definitions.len());
         assert_eq!(came_up[5], need.spans.len());
         assert_eq!(came_up[0], 4);
@@ -85,7 +91,7 @@ fn brackets_over_lines() {
             for close in ["]", "]\n"] {
                 let [inner, outer] = [inner, outer].map(|count| close.repeat(count));
                 let note = format!("{open}{inner}](a){outer}\n[b](c) [\n[d\n](e)");
-                compare_long(note.as_bytes());
+                compare_long_note(note.as_bytes());
             }
         }
     }
@@ -99,7 +105,7 @@ fn many_lines() {
         for piece in ["\n", "\n\n", " \n", "a\n", "`\n`\n", "[a\n", "[a]: b\n"] {
             let pieces = lines.min((LONGEST_NOTE - 60) / piece.len());
             let end = "[c\n`d`](e) `f`\n\n[g\n]:\nh\n\n[g]";
-            compare_long(format!("{}{end}", piece.repeat(pieces)).as_bytes());
+            compare_long_note(format!("{}{end}", piece.repeat(pieces)).as_bytes());
         }
     }
 }

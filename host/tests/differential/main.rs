@@ -1,14 +1,15 @@
 //! The proved library, through its exported entries, against the second reader: answer numbers,
-//! values and counts, both tables and the page whole, with the guards around them.
+//! values, counts and texts, both tables and the page whole, with the guards around them. Where the sheet
+//! is empty, what is wanted are the second reader's answers for the note alone.
 //!
 //! Random notes are the same in every run. Two environment variables change that:
-//! - `NOTICE_DIFFERENTIAL_NOTES=N`: so many random notes in all (600,000 if not given), and as many
-//!   pairs of labels;
+//! - `NOTICE_DIFFERENTIAL_NOTES=N`: so many random notes alone (600,000 if not given), as many beside
+//!   random sheets, and as many pairs of labels;
 //! - `NOTICE_DIFFERENTIAL_SEED=S`: another seed (1 if not given).
 //!
 //! A longer run: `NOTICE_DIFFERENTIAL_NOTES=20000000 NOTICE_DIFFERENTIAL_SEED=2 cargo test
 //! --release --offline --manifest-path host/Cargo.toml --test differential`. A difference is printed
-//! with its seed, the note, cut down as far as it still differs, and both answers.
+//! with its seed, the note and the sheet, cut down as far as it still differs, and both answers.
 
 mod bad;
 mod compare;
@@ -18,6 +19,7 @@ mod lines;
 mod named;
 mod random;
 mod raw;
+mod sheets;
 mod shrink;
 mod stretches;
 mod trial;

@@ -1,23 +1,16 @@
 //! The sources' examples, the cases of the program `samples`, long notes and the benchmark's notes,
 //! with tables and pages of every size near the need.
 
-use crate::compare::{self, Lending};
-use crate::trial::Need;
+use crate::compare::{self, Lending, Texts};
+use crate::trial::{label_of, Need};
 use host::cases;
-use host::generate::bench_notes;
+use host::generate::bench_notes::{self, BenchNote};
 use host::second::{DEFINITION_ROW_WIDTH, LONGEST_NOTE, SPAN_ROW_WIDTH};
 use host::sources::{examples, Example};
 
-/// What was compared, or a failure with the note's first bytes.
-pub fn must<T>(note: &[u8], compared: Result<T, String>) -> T {
-    let start = &note[..note.len().min(400)];
-    compared.unwrap_or_else(|what| {
-        let length = note.len();
-        panic!(
-            "note of {length} bytes \"{}\"\n{what}",
-            start.escape_ascii()
-        )
-    })
+/// What was compared, or a failure with the first bytes of both texts.
+pub fn must<T>(texts: Texts, compared: Result<T, String>) -> T {
+    compared.unwrap_or_else(|what| panic!("{}\n{what}", texts.shown()))
 }
 
 /// Nothing, one less than the need, the need, one more, and part of a row more.
@@ -64,41 +57,36 @@ fn lendings_one_by_one(exactly: Lending) -> Vec<Lending> {
 }
 
 /// Through the reader and the page writer with each lending; returns what came up, by number.
-pub fn compare_with(note: &[u8], lendings: &[Lending]) -> [usize; 7] {
+pub fn compare_with(texts: Texts, lendings: &[Lending]) -> [usize; 7] {
     let mut came_up = [0; 7];
     for lending in lendings {
-        came_up[must(note, compare::render(note, *lending)) as usize] += 1;
-        must(note, compare::read(note, *lending));
+        let named = must(texts, compare::render(texts, *lending));
+        came_up[named.number as usize] += 1;
+        must(texts, compare::read(texts, *lending));
     }
     came_up
 }
 
-/// The enquiry about every label that the note defines, and about its text.
-fn compare_enquiries(note: &[u8], need: &Need) {
-    for [start, end, ..] in &need.definitions {
-        let label = &note[*start as usize..*end as usize];
-        let number = must(note, compare::resolve(note, label));
-        assert_eq!(number, 0, "a defined label is found");
-        must(note, compare::resolve(note, &label.to_ascii_uppercase()));
-        must(
-            note,
-            compare::resolve(note, &[b" \n", label, b"\t"].concat()),
-        );
+/// The enquiry about every label that the texts define, and about the texts of the spans.
+pub fn compare_enquiries(texts: Texts, need: &Need) {
+    let resolve = |label: &[u8]| must(texts, compare::resolve(texts, label));
+    for row in &need.definitions {
+        let label = label_of(texts, row);
+        assert_eq!(resolve(label).number, 0, "a defined label is found");
+        resolve(&label.to_ascii_uppercase());
+        resolve(&[b" \n", label, b"\t"].concat());
     }
     for [_, _, _, start, end, ..] in &need.spans {
-        must(
-            note,
-            compare::resolve(note, &note[*start as usize..*end as usize]),
-        );
+        resolve(&texts.note[*start as usize..*end as usize]);
     }
-    must(note, compare::resolve(note, b""));
+    resolve(b"");
 }
 
-/// A short note at every size near the need.
-pub fn compare_at_every_size(note: &[u8]) -> [usize; 7] {
-    let need = Need::of(note);
-    compare_enquiries(note, &need);
-    compare_with(note, &lendings(need.exactly()))
+/// Short texts at every size near the need.
+pub fn compare_at_every_size(texts: Texts) -> [usize; 7] {
+    let need = Need::of(texts);
+    compare_enquiries(texts, &need);
+    compare_with(texts, &lendings(need.exactly()))
 }
 
 #[test]
@@ -108,7 +96,7 @@ fn base_examples_at_every_size() {
     assert_eq!(examples.len(), 229);
     let mut refusals = [0; 7];
     for example in examples {
-        let came_up = compare_at_every_size(example.note.as_bytes());
+        let came_up = compare_at_every_size(Texts::alone(example.note.as_bytes()));
         for (sum, more) in refusals.iter_mut().zip(came_up) {
             *sum += more;
         }
@@ -123,46 +111,55 @@ fn cases_of_the_samples() {
     let cases = cases::all();
     assert!(cases.len() > 1_000, "{} cases", cases.len());
     for case in cases {
-        let note = case.note.as_slice();
-        let need = Need::of(note);
+        let texts = Texts {
+            note: &case.note,
+            sheet: &case.sheet,
+        };
+        let need = Need::of(texts);
         let mut all = lendings_one_by_one(need.exactly());
         all.push(Lending {
             definition_numbers: case.definition_numbers,
             span_numbers: case.span_numbers,
             page_bytes: case.page_bytes,
         });
-        // Hard notes take the second reader long.
-        let most = if note.len() > 2_000 { 1 } else { all.len() };
-        compare_with(note, &all[all.len() - most..]);
-        must(note, compare::resolve(note, &case.label));
-        if note.len() <= 2_000 {
-            compare_enquiries(note, &need);
+        // Hard texts take the second reader long.
+        let short = case.note.len() + case.sheet.len() <= 2_000;
+        let most = if short { all.len() } else { 1 };
+        compare_with(texts, &all[all.len() - most..]);
+        must(texts, compare::resolve(texts, &case.label));
+        if short {
+            compare_enquiries(texts, &need);
         }
     }
 }
 
-/// A note through all three entries with part of a row more than it needs.
-pub fn compare_long(note: &[u8]) -> Need {
-    let need = Need::of(note);
+/// Texts through all three entries with part of a row more than they need.
+pub fn compare_long(texts: Texts) -> Need {
+    let need = Need::of(texts);
     let exactly = need.exactly();
     let more = Lending {
         definition_numbers: exactly.definition_numbers + DEFINITION_ROW_WIDTH - 1,
         span_numbers: exactly.span_numbers + SPAN_ROW_WIDTH - 1,
         page_bytes: exactly.page_bytes + 1,
     };
-    must(note, compare::read(note, more));
-    must(note, compare::render(note, more));
+    must(texts, compare::read(texts, more));
+    must(texts, compare::render(texts, more));
     let last = need.definitions.last();
-    let label = last.map_or(0..1, |row| row[0] as usize..row[1] as usize);
-    must(note, compare::resolve(note, &note[label]));
+    let label = last.map_or(&texts.note[..1], |row| label_of(texts, row));
+    must(texts, compare::resolve(texts, label));
     need
+}
+
+/// The same of a note alone.
+pub fn compare_long_note(note: &[u8]) -> Need {
+    compare_long(Texts::alone(note))
 }
 
 #[test]
 fn notes_of_the_benchmark() {
-    for note in bench_notes::all() {
-        assert!(note.bytes.len() <= LONGEST_NOTE, "{}", note.name);
-        compare_long(&note.bytes);
+    for BenchNote { name, bytes, sheet } in &bench_notes::all() {
+        assert!(bytes.len().max(sheet.len()) <= LONGEST_NOTE, "{name}");
+        compare_long(Texts { note: bytes, sheet });
     }
 }
 
@@ -184,11 +181,12 @@ fn longest_notes() {
     ];
     for piece in pieces {
         let note = piece.repeat(LONGEST_NOTE / piece.len()).into_bytes();
-        let exactly = compare_long(&note).exactly();
+        let texts = Texts::alone(&note);
+        let exactly = compare_long(texts).exactly();
         let short_page = Lending {
             page_bytes: exactly.page_bytes.saturating_sub(1),
             ..exactly
         };
-        must(&note, compare::render(&note, short_page));
+        must(texts, compare::render(texts, short_page));
     }
 }

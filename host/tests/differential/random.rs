@@ -1,16 +1,18 @@
-//! Random notes, and every short note over a few marks.
+//! Random notes, alone and beside random sheets, and every short note over a few marks.
 
+use crate::compare::Texts;
 use crate::shrink::shrunk;
 use crate::trial::{self, Tally};
 use host::generate::alphabets::ALPHABETS;
 use host::generate::chance::Chance;
-use host::generate::grammar;
+use host::generate::{grammar, sheets};
 
-/// How many random notes there are in all, and the seed, if the environment names no other.
+/// How many random notes there are alone, and how many beside a sheet, and the seed, if the environment names
+/// no other.
 const NOTES: u64 = 600_000;
 const SEED: u64 = 1;
 
-/// How many there are in all.
+/// How many there are alone.
 pub fn notes() -> u64 {
     setting("NOTICE_DIFFERENTIAL_NOTES", NOTES)
 }
@@ -34,28 +36,42 @@ fn setting(name: &str, otherwise: u64) -> u64 {
 }
 
 /// Compares so many notes of one maker.
-fn run(maker: &str, notes: u64, tally: &mut Tally, make: impl Fn(&mut Chance) -> Vec<u8>) {
+fn run(
+    maker: &str,
+    notes: u64,
+    tally: &mut Tally,
+    make: impl Fn(&mut Chance) -> (Vec<u8>, Vec<u8>),
+) {
     for index in 0..notes {
         let chance = &mut chance(index);
-        let note = make(chance);
+        let (note, sheet) = make(chance);
+        let texts = Texts {
+            note: &note,
+            sheet: &sheet,
+        };
         let variant = chance.number();
-        let compared = trial::compare(&note, variant, tally);
+        let compared = trial::compare(texts, variant, tally);
         if let Err(what) = compared {
             let place = format!("seed {}, {maker}, note {index}", seed());
-            report(&place, &note, variant, &what);
+            report(&place, texts, variant, &what);
         }
     }
 }
 
-/// Prints a difference, and again for the note cut down, and fails.
-fn report(place: &str, note: &[u8], variant: u64, what: &str) -> ! {
-    let again = |note: &[u8]| trial::compare(note, variant, &mut Tally::default());
-    let small = shrunk(note, |shorter| again(shorter).is_err());
-    let still = again(&small).expect_err("a note that differs");
+/// Prints a difference, and again for the texts cut down, and fails.
+pub fn report(place: &str, texts: Texts, variant: u64, what: &str) -> ! {
+    let again = |note: &[u8], sheet: &[u8]| {
+        trial::compare(Texts { note, sheet }, variant, &mut Tally::default())
+    };
+    let sheet = shrunk(texts.sheet, |shorter| again(texts.note, shorter).is_err());
+    let note = shrunk(texts.note, |shorter| again(shorter, &sheet).is_err());
+    let still = again(&note, &sheet).expect_err("texts that differ");
     panic!(
-        "{place}\nnote \"{}\"\n{what}\n\ncut down to \"{}\"\n{still}",
+        "{place}\nnote \"{}\"\nsheet \"{}\"\n{what}\n\ncut down to \"{}\" and \"{}\"\n{still}",
+        texts.note.escape_ascii(),
+        texts.sheet.escape_ascii(),
         note.escape_ascii(),
-        small.escape_ascii()
+        sheet.escape_ascii()
     );
 }
 
@@ -66,6 +82,13 @@ fn settle(tally: &Tally, notes: u64) {
     }
 }
 
+fn settle_sheets(tally: &Tally, notes: u64) {
+    settle(tally, notes);
+    if notes >= NOTES / 3 {
+        tally.assert_sheets_came_up(100);
+    }
+}
+
 #[test]
 fn notes_from_the_alphabets() {
     let notes = notes() / 3 * 2;
@@ -73,7 +96,7 @@ fn notes_from_the_alphabets() {
     for alphabet in ALPHABETS {
         let share = notes / ALPHABETS.len() as u64;
         run(alphabet.name, share, &mut tally, |chance| {
-            alphabet.note(chance)
+            (alphabet.note(chance), Vec::new())
         });
     }
     settle(&tally, notes);
@@ -83,24 +106,62 @@ fn notes_from_the_alphabets() {
 fn notes_from_the_grammar() {
     let notes = notes() / 3;
     let mut tally = Tally::default();
-    run("grammar", notes, &mut tally, grammar::note);
+    run("grammar", notes, &mut tally, |chance| {
+        (grammar::note(chance), Vec::new())
+    });
     settle(&tally, notes);
 }
 
-/// Every note of up to `most` bytes of the marks, behind `start`.
-pub fn every_note(start: &[u8], marks: &[u8], most: u32) {
+#[test]
+fn notes_from_the_alphabets_beside_sheets() {
+    let notes = notes() / 3 * 2;
     let mut tally = Tally::default();
-    for length in 0..=most {
-        for index in 0..marks.len().pow(length) {
-            let mut note = start.to_vec();
+    for alphabet in ALPHABETS {
+        let share = notes / ALPHABETS.len() as u64;
+        let name = format!("{} beside sheets", alphabet.name);
+        run(&name, share, &mut tally, |chance| {
+            sheets::beside(|chance| alphabet.note(chance), chance)
+        });
+    }
+    settle_sheets(&tally, notes);
+}
+
+#[test]
+fn notes_from_the_grammar_beside_sheets() {
+    let notes = notes() / 3;
+    let mut tally = Tally::default();
+    run("grammar beside sheets", notes, &mut tally, |chance| {
+        sheets::beside(grammar::note, chance)
+    });
+    settle_sheets(&tally, notes);
+}
+
+/// Every text of up to `most` bytes of the marks, behind `start`, with its index.
+pub fn every_text(
+    start: &'static [u8],
+    marks: &'static [u8],
+    most: u32,
+) -> impl Iterator<Item = (u64, Vec<u8>)> {
+    (0..=most).flat_map(move |length| {
+        (0..marks.len().pow(length)).map(move |index| {
+            let mut text = start.to_vec();
             let mut rest = index;
             for _ in 0..length {
-                note.push(marks[rest % marks.len()]);
+                text.push(marks[rest % marks.len()]);
                 rest /= marks.len();
             }
-            if let Err(what) = trial::compare(&note, index as u64, &mut tally) {
-                report("every short note", &note, index as u64, &what);
-            }
+            (index as u64, text)
+        })
+    })
+}
+
+/// Every such text as a note.
+pub fn every_note(start: &'static [u8], marks: &'static [u8], most: u32) {
+    let mut tally = Tally::default();
+    for (variant, note) in every_text(start, marks, most) {
+        let texts = Texts::alone(&note);
+        if let Err(what) = trial::compare(texts, variant, &mut tally) {
+            report("every short note", texts, variant, &what);
         }
     }
 }

@@ -1,7 +1,7 @@
 //! Long runs of backticks, of blanks and of brackets, at the lengths where the library goes another way.
 
-use crate::compare;
-use crate::named::{compare_long, must};
+use crate::compare::{self, Texts};
+use crate::named::{compare_long, compare_long_note, must};
 
 /// So many backticks.
 fn ticks(count: usize) -> String {
@@ -27,7 +27,7 @@ fn runs_of_backticks() {
             format!("{longer}\n\n{run}a{run}\n\n{longer}b\\{run}c{longer}"),
         ];
         for note in notes {
-            compare_long(note.as_bytes());
+            compare_long_note(note.as_bytes());
         }
     }
 }
@@ -38,7 +38,7 @@ fn runs_of_backticks_in_short_paragraphs() {
         for piece in ["`", "``\\", "`a``", "\\``", "``a`", "[`](b)", "```a``b`"] {
             let mut note = piece.repeat(size / piece.len());
             note += &"x".repeat(size - note.len());
-            compare_long(format!("{note}\n\n{note}`\n\n`{note}").as_bytes());
+            compare_long_note(format!("{note}\n\n{note}`\n\n`{note}").as_bytes());
         }
     }
 }
@@ -59,7 +59,7 @@ fn brackets_near_the_limit() {
             format!("[a]: b\n\n{open}\n\n{open}a{close}\n\n[a]{close}{open}"),
         ];
         for note in notes {
-            compare_long(note.as_bytes());
+            compare_long_note(note.as_bytes());
         }
     }
 }
@@ -73,7 +73,8 @@ fn blanks_in_labels() {
             let note = format!(
                 "[{inner}A{inner}b{inner}]: /u\n\n[a b] [ab] [a{inner}B] [{inner} a\tb{inner}]\n"
             );
-            compare_long(note.as_bytes());
+            let texts = Texts::alone(note.as_bytes());
+            compare_long(texts);
             for label in [
                 format!("{inner}a b"),
                 format!("a{inner}b"),
@@ -81,10 +82,7 @@ fn blanks_in_labels() {
                 format!("a{inner}\u{b}{inner}b"),
                 format!("{inner}\u{c}a b"),
             ] {
-                must(
-                    note.as_bytes(),
-                    compare::resolve(note.as_bytes(), label.as_bytes()),
-                );
+                must(texts, compare::resolve(texts, label.as_bytes()));
             }
         }
     }

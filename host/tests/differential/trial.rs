@@ -1,11 +1,11 @@
-//! One note through the three entries, with what is lent and asked chosen by chance.
+//! A note and a sheet through the three entries, with what is lent and asked chosen by chance.
 
-use crate::compare::{self, Compared, Lending};
+use crate::compare::{self, Compared, Lending, Texts};
 use host::generate::chance::Chance;
 use host::generate::grammar;
 use host::second::{self, DefinitionRow, SpanRow, DEFINITION_ROW_WIDTH, SPAN_ROW_WIDTH};
 
-/// What a note needs, and its rows.
+/// What a note and a sheet need, and their rows.
 pub struct Need {
     pub definitions: Vec<DefinitionRow>,
     pub spans: Vec<SpanRow>,
@@ -14,8 +14,9 @@ pub struct Need {
 
 impl Need {
     /// By the second reader; nothing where a refusal hides it.
-    pub fn of(note: &[u8]) -> Need {
-        let answer = second::render(note, usize::MAX, usize::MAX, usize::MAX);
+    pub fn of(texts: Texts) -> Need {
+        let Texts { note, sheet } = texts;
+        let answer = second::render(note, sheet, usize::MAX, usize::MAX, usize::MAX);
         Need {
             definitions: answer.definition_rows.unwrap_or_default(),
             spans: answer.span_rows.unwrap_or_default(),
@@ -51,14 +52,13 @@ impl Need {
         }
     }
 
-    /// A label to ask for: mostly one that the note defines, or nearly.
-    fn label(&self, note: &[u8], chance: &mut Chance) -> Vec<u8> {
+    /// A label to ask for: mostly one that the note or the sheet defines, or nearly.
+    fn label(&self, texts: Texts, chance: &mut Chance) -> Vec<u8> {
         if self.definitions.is_empty() || chance.once_in(4) {
             return label_by_chance(chance);
         }
-        let [start, end, ..] = chance.one_of(&self.definitions);
-        let label = &note[start as usize..end as usize];
-        let label = std::str::from_utf8(label).expect("a label of a good note");
+        let label = label_of(texts, &chance.one_of(&self.definitions));
+        let label = std::str::from_utf8(label).expect("a label of a good text");
         match chance.below(5) {
             0 => label.as_bytes().to_vec(),
             1 => [label.as_bytes(), b"\\"].concat(),
@@ -66,6 +66,12 @@ impl Need {
             _ => grammar::varied(chance, label).into_bytes(),
         }
     }
+}
+
+/// The label of a definition, as its row says where it stands.
+pub fn label_of<'t>(texts: Texts<'t>, row: &DefinitionRow) -> &'t [u8] {
+    let [text, start, end, ..] = *row;
+    &texts.text(text)[start as usize..end as usize]
 }
 
 /// Less than the need, if that can be.
@@ -107,15 +113,20 @@ fn label_by_chance(chance: &mut Chance) -> Vec<u8> {
         .collect()
 }
 
+/// How often each number was answered about each text.
+type Numbers = [[usize; 9]; 2];
+
 /// What came up over many trials.
 #[derive(Default)]
 pub struct Tally {
-    reader: [usize; 9],
-    writer: [usize; 9],
-    enquiry: [usize; 9],
+    reader: Numbers,
+    writer: Numbers,
+    enquiry: Numbers,
     kinds: [usize; 6],
-    /// Definitions past the note's first line, definitions over lines, spans past it, spans over lines.
+    /// Definitions past their text's first line, definitions over lines, spans past it, spans over lines.
     lines: [usize; 4],
+    /// References to definitions of each text.
+    references: [usize; 2],
 }
 
 impl Tally {
@@ -123,21 +134,13 @@ impl Tally {
     pub fn assert_all_came_up(&self, least: usize) {
         let from =
             |numbers: &[usize], list: &[usize]| list.iter().all(|number| numbers[*number] >= least);
+        let [reader, writer, enquiry] = [&self.reader, &self.writer, &self.enquiry];
+        assert!(from(&reader[0], &[0, 2, 3, 4, 5]), "reader {reader:?}");
         assert!(
-            from(&self.reader, &[0, 2, 3, 4, 5]),
-            "reader {:?}",
-            self.reader
+            from(&writer[0], &[0, 2, 3, 4, 5, 6]),
+            "page writer {writer:?}"
         );
-        assert!(
-            from(&self.writer, &[0, 2, 3, 4, 5, 6]),
-            "page writer {:?}",
-            self.writer
-        );
-        assert!(
-            from(&self.enquiry, &[0, 2, 7, 8]),
-            "enquiry {:?}",
-            self.enquiry
-        );
+        assert!(from(&enquiry[0], &[0, 2, 7, 8]), "enquiry {enquiry:?}");
         assert!(
             from(&self.kinds, &[1, 2, 3, 4, 5]),
             "kinds of row {:?}",
@@ -146,44 +149,64 @@ impl Tally {
         assert!(from(&self.lines, &[0, 1, 2, 3]), "lines {:?}", self.lines);
     }
 
-    /// Counts the rows of a note.
-    fn count_rows(&mut self, note: &[u8], need: &Need) {
+    /// So did every answer that names the sheet, and references to both texts.
+    pub fn assert_sheets_came_up(&self, least: usize) {
+        let [reader, writer, enquiry] = [&self.reader, &self.writer, &self.enquiry].map(|of| of[1]);
+        assert!(reader[2] >= least, "reader {reader:?}");
+        assert!(writer[2] >= least, "page writer {writer:?}");
+        assert!(
+            enquiry[0] >= least && enquiry[2] >= least,
+            "enquiry {enquiry:?}"
+        );
+        let long = [reader, writer, enquiry].map(|of| of[1]);
+        assert!(long.iter().all(|count| *count > 0), "too long {long:?}");
+        assert!(
+            self.references.iter().all(|count| *count >= least),
+            "references {:?}",
+            self.references
+        );
+    }
+
+    /// Counts the rows of a note and a sheet.
+    fn count_rows(&mut self, texts: Texts, need: &Need) {
         let mut count = |line: u32, first: usize, part: &[u8]| {
             self.lines[first] += usize::from(line > 1);
             self.lines[first + 1] += usize::from(part.contains(&b'\n'));
         };
-        for [label, _, _, destination_end, _, title_end, line] in &need.definitions {
+        for [text, label, _, _, destination_end, _, title_end, line] in &need.definitions {
             let end = destination_end.max(title_end);
-            count(*line, 0, &note[*label as usize..*end as usize]);
+            let whole = texts.text(*text);
+            count(*line, 0, &whole[*label as usize..*end as usize]);
         }
-        for [kind, start, end, .., line] in &need.spans {
-            count(*line, 2, &note[*start as usize..*end as usize]);
+        for [kind, start, end, _, _, definition, .., line] in &need.spans {
+            count(*line, 2, &texts.note[*start as usize..*end as usize]);
             self.kinds[*kind as usize] += 1;
+            if let Some(index) = definition.checked_sub(1) {
+                let text = need.definitions[index as usize][0];
+                self.references[text as usize] += 1;
+            }
         }
     }
 }
 
-/// All comparisons of a note; the variant chooses what is lent and which labels are asked for.
-pub fn compare(note: &[u8], variant: u64, tally: &mut Tally) -> Result<(), String> {
+/// All comparisons of a note and a sheet; the variant chooses what is lent and which labels are asked for.
+pub fn compare(texts: Texts, variant: u64, tally: &mut Tally) -> Result<(), String> {
     let chance = &mut Chance::from_seed(variant);
-    let need = Need::of(note);
-    tally.count_rows(note, &need);
-    count(
-        &mut tally.writer,
-        compare::render(note, need.by_chance(chance)),
-    )?;
-    count(
-        &mut tally.reader,
-        compare::read(note, need.by_chance(chance)),
-    )?;
+    let need = Need::of(texts);
+    tally.count_rows(texts, &need);
+    let lending = need.by_chance(chance);
+    count(&mut tally.writer, compare::render(texts, lending))?;
+    let lending = need.by_chance(chance);
+    count(&mut tally.reader, compare::read(texts, lending))?;
     for _ in 0..2 {
-        let label = need.label(note, chance);
-        count(&mut tally.enquiry, compare::resolve(note, &label))?;
+        let label = need.label(texts, chance);
+        count(&mut tally.enquiry, compare::resolve(texts, &label))?;
     }
     Ok(())
 }
 
-fn count(numbers: &mut [usize; 9], compared: Compared) -> Result<(), String> {
-    numbers[compared? as usize] += 1;
+fn count(numbers: &mut Numbers, compared: Compared) -> Result<(), String> {
+    let named = compared?;
+    numbers[named.text as usize][named.number as usize] += 1;
     Ok(())
 }

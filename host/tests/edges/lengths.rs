@@ -1,7 +1,7 @@
 //! Lengths.
 
-use super::{check, definitions, found, read, refused, refused_enquiry, spans};
-use host::second::{self, DefinitionRow, SpanRow};
+use super::{check, definitions, found, read, refused, refused_enquiry, resolve, spans};
+use host::second::{DefinitionRow, SpanRow};
 
 #[test]
 fn empty_note() {
@@ -9,7 +9,7 @@ fn empty_note() {
     for note in ["\n", " ", " \t\n\n\t", "\n\n\n"] {
         check(note, &[], &[], "");
     }
-    assert_eq!(second::resolve(b"", b"a"), refused_enquiry(7, 0));
+    assert_eq!(resolve(b"", b"a"), refused_enquiry(7, 0));
 }
 
 #[test]
@@ -50,7 +50,7 @@ fn labels_of_999_and_1000_characters() {
         let (note, length) = defined_and_used(&character.repeat(999));
         assert_eq!(
             definitions(&note),
-            [[1, 1 + length, 4 + length, 6 + length, 0, 0, 1]]
+            [[0, 1, 1 + length, 4 + length, 6 + length, 0, 0, 1]]
         );
         assert_eq!(
             spans(&note),
@@ -99,11 +99,8 @@ fn spaces_count_in_a_label_though_they_compare_as_one() {
     assert_eq!(shortcut, [[5, 21, 26, 22, 25, 2, 17, 19, 0, 0, 4]]);
     // The enquiry.
     let note = define.as_bytes();
-    assert_eq!(second::resolve(note, long.as_bytes()), found(7, 9));
-    assert_eq!(
-        second::resolve(note, too_long.as_bytes()),
-        refused_enquiry(8, 0)
-    );
+    assert_eq!(resolve(note, long.as_bytes()), found(7, 9));
+    assert_eq!(resolve(note, too_long.as_bytes()), refused_enquiry(8, 0));
 }
 
 #[test]
@@ -113,12 +110,12 @@ fn enquiry_about_labels_of_999_and_1000_characters() {
         let note = format!("[{label}]: /u");
         let start = label.len() + 4;
         assert_eq!(
-            second::resolve(note.as_bytes(), label.as_bytes()),
+            resolve(note.as_bytes(), label.as_bytes()),
             found(start, start + 2)
         );
         let label = character.repeat(1_000);
         assert_eq!(
-            second::resolve(note.as_bytes(), label.as_bytes()),
+            resolve(note.as_bytes(), label.as_bytes()),
             refused_enquiry(8, 0)
         );
     }

@@ -1,6 +1,6 @@
 //! The edges of document 01 against the second reader. Rows and numbers were computed by hand from
-//! document 01, lines from document 02; where the reader disagreed, they were counted again from the
-//! note.
+//! document 01, lines and what a sheet adds from document 02; where the reader disagreed, they were counted
+//! again from the note. But for those of `sheets` the notes are read beside an empty sheet.
 
 mod bench;
 mod blocks;
@@ -11,18 +11,24 @@ mod lines;
 mod markings;
 mod pages;
 mod refusals;
+mod sheets;
 
 use host::second::{self, DefinitionRow, ReadAnswer, RenderAnswer, ResolveAnswer, SpanRow};
 use host::second::{DEFINITION_ROW_WIDTH, SPAN_ROW_WIDTH};
 
 /// The reader with more lent than any note needs.
 fn read(note: &[u8]) -> ReadAnswer {
-    second::read(note, usize::MAX, usize::MAX)
+    second::read(note, b"", usize::MAX, usize::MAX)
 }
 
 /// The page writer with more lent than any note needs.
 fn render(note: &[u8]) -> RenderAnswer {
-    second::render(note, usize::MAX, usize::MAX, usize::MAX)
+    second::render(note, b"", usize::MAX, usize::MAX, usize::MAX)
+}
+
+/// The enquiry.
+fn resolve(note: &[u8], label: &[u8]) -> ResolveAnswer {
+    second::resolve(note, b"", label)
 }
 
 fn page(note: &str) -> String {
@@ -45,12 +51,25 @@ fn definitions(note: &str) -> Vec<DefinitionRow> {
 
 /// A note, its rows and its page, number for number, from both entries.
 fn check(note: &str, definition_rows: &[DefinitionRow], span_rows: &[SpanRow], html: &str) {
+    check_beside("", note, definition_rows, span_rows, html);
+}
+
+/// The same of a note with this sheet beside it.
+fn check_beside(
+    sheet: &str,
+    note: &str,
+    definition_rows: &[DefinitionRow],
+    span_rows: &[SpanRow],
+    html: &str,
+) {
+    let [note_bytes, sheet_bytes] = [note, sheet].map(str::as_bytes);
     let rendered = RenderAnswer {
         number: 0,
         value: 0,
         definition_count: definition_rows.len(),
         span_count: span_rows.len(),
         page_length: html.len(),
+        text: 0,
         definition_rows: Some(definition_rows.to_vec()),
         span_rows: Some(span_rows.to_vec()),
         page: Some(html.as_bytes().to_vec()),
@@ -60,7 +79,8 @@ fn check(note: &str, definition_rows: &[DefinitionRow], span_rows: &[SpanRow], h
     let span_numbers = span_rows.len() * SPAN_ROW_WIDTH;
     assert_eq!(
         second::render(
-            note.as_bytes(),
+            note_bytes,
+            sheet_bytes,
             definition_numbers,
             span_numbers,
             html.len()
@@ -68,17 +88,9 @@ fn check(note: &str, definition_rows: &[DefinitionRow], span_rows: &[SpanRow], h
         rendered,
         "{note:?}"
     );
-    let read = ReadAnswer {
-        number: 0,
-        value: 0,
-        definition_count: definition_rows.len(),
-        span_count: span_rows.len(),
-        definition_rows: rendered.definition_rows,
-        span_rows: rendered.span_rows,
-    };
     assert_eq!(
-        second::read(note.as_bytes(), definition_numbers, span_numbers),
-        read,
+        second::read(note_bytes, sheet_bytes, definition_numbers, span_numbers),
+        rendered.without_page(),
         "{note:?}"
     );
 }
@@ -89,6 +101,7 @@ fn refused(number: u32, value: usize) -> ReadAnswer {
         value,
         definition_count: 0,
         span_count: 0,
+        text: 0,
         definition_rows: None,
         span_rows: None,
     }
@@ -99,6 +112,7 @@ fn refused_enquiry(number: u32, value: usize) -> ResolveAnswer {
         number,
         value,
         destination: 0..0,
+        text: 0,
     }
 }
 
@@ -107,5 +121,6 @@ fn found(start: usize, end: usize) -> ResolveAnswer {
         number: 0,
         value: start,
         destination: start..end,
+        text: 0,
     }
 }

@@ -7,13 +7,13 @@ use host::second::SpanRow;
 fn bracketed_space_after_a_shortcut() {
     check(
         "[foo][ ]\n\n[foo]: /u",
-        &[[11, 14, 17, 19, 0, 0, 3]],
+        &[[0, 11, 14, 17, 19, 0, 0, 3]],
         &[[5, 0, 5, 1, 4, 1, 17, 19, 0, 0, 1]],
         "<p><a href=\"/u\">foo</a>[ ]</p>\n",
     );
     check(
         "[foo][]\n\n[foo]: /u",
-        &[[10, 13, 16, 18, 0, 0, 3]],
+        &[[0, 10, 13, 16, 18, 0, 0, 3]],
         &[[4, 0, 7, 1, 4, 1, 16, 18, 0, 0, 1]],
         "<p><a href=\"/u\">foo</a></p>\n",
     );
@@ -24,7 +24,7 @@ fn readings_that_look_right() {
     // "Falling back to `[foo]` in `[foo][bar]` when bar is undefined."
     check(
         "[foo]: /u\n\n[foo][bar]",
-        &[[1, 4, 7, 9, 0, 0, 1]],
+        &[[0, 1, 4, 7, 9, 0, 0, 1]],
         &[],
         "<p>[foo][bar]</p>\n",
     );
@@ -45,14 +45,14 @@ fn readings_that_look_right() {
     // "Taking the last definition of a label."
     check(
         "[a]: b\n[A]: c\n\n[ a ]",
-        &[[1, 2, 5, 6, 0, 0, 1], [8, 9, 12, 13, 0, 0, 2]],
+        &[[0, 1, 2, 5, 6, 0, 0, 1], [0, 8, 9, 12, 13, 0, 0, 2]],
         &[[5, 15, 20, 16, 19, 1, 5, 6, 0, 0, 4]],
         "<p><a href=\"b\"> a </a></p>\n",
     );
     // "Undoing escapes before comparing labels".
     check(
         "[foo!]: /u\n\n[foo\\!]",
-        &[[1, 5, 8, 10, 0, 0, 1]],
+        &[[0, 1, 5, 8, 10, 0, 0, 1]],
         &[],
         "<p>[foo!]</p>\n",
     );

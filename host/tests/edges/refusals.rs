@@ -1,11 +1,12 @@
 //! Refusals.
 
-use super::{check, found, page, read, refused, refused_enquiry};
+use super::{check, found, page, read, refused, refused_enquiry, resolve};
 use host::second::{self, DefinitionRow, ReadAnswer, RenderAnswer, SpanRow};
 use host::second::{DEFINITION_ROW_WIDTH, SPAN_ROW_WIDTH};
 
 const NOTE: &str = "[a]: /x\n[b]: /y\n\n`c` [a]\n";
-const NOTE_DEFINITIONS: [DefinitionRow; 2] = [[1, 2, 5, 7, 0, 0, 1], [9, 10, 13, 15, 0, 0, 2]];
+const NOTE_DEFINITIONS: [DefinitionRow; 2] =
+    [[0, 1, 2, 5, 7, 0, 0, 1], [0, 9, 10, 13, 15, 0, 0, 2]];
 const NOTE_SPANS: [SpanRow; 2] = [
     [1, 17, 20, 18, 19, 0, 0, 0, 0, 0, 4],
     [5, 21, 24, 22, 23, 1, 5, 7, 0, 0, 4],
@@ -28,14 +29,17 @@ fn refusals_in_order() {
     let too_long = ill_formed.clone() + &" ".repeat(32_769 - ill_formed.len());
 
     // Everything is wrong; then one thing after another is put right.
-    assert_eq!(second::read(too_long.as_bytes(), 0, 0), refused(1, 32_769));
     assert_eq!(
-        second::read(ill_formed.as_bytes(), 0, 0),
+        second::read(too_long.as_bytes(), b"", 0, 0),
+        refused(1, 32_769)
+    );
+    assert_eq!(
+        second::read(ill_formed.as_bytes(), b"", 0, 0),
         refused(2, 20 + 1_025)
     );
-    assert_eq!(second::read(deep.as_bytes(), 0, 0), refused(3, 2));
+    assert_eq!(second::read(deep.as_bytes(), b"", 0, 0), refused(3, 2));
     assert_eq!(
-        second::read(deep.as_bytes(), DEFINITIONS - 1, 0),
+        second::read(deep.as_bytes(), b"", DEFINITIONS - 1, 0),
         refused(3, 2)
     );
     let with_definitions = |number, value| ReadAnswer {
@@ -43,18 +47,21 @@ fn refusals_in_order() {
         ..refused(number, value)
     };
     assert_eq!(
-        second::read(deep.as_bytes(), DEFINITIONS, 0),
+        second::read(deep.as_bytes(), b"", DEFINITIONS, 0),
         with_definitions(4, 20 + 1_024)
     );
     assert_eq!(
-        second::read(NOTE.as_bytes(), DEFINITIONS, 0),
+        second::read(NOTE.as_bytes(), b"", DEFINITIONS, 0),
         with_definitions(5, 2)
     );
     assert_eq!(
-        second::read(NOTE.as_bytes(), DEFINITIONS, SPANS - 1),
+        second::read(NOTE.as_bytes(), b"", DEFINITIONS, SPANS - 1),
         with_definitions(5, 2)
     );
-    assert_eq!(second::read(NOTE.as_bytes(), DEFINITIONS, SPANS).number, 0);
+    assert_eq!(
+        second::read(NOTE.as_bytes(), b"", DEFINITIONS, SPANS).number,
+        0
+    );
 }
 
 #[test]
@@ -66,6 +73,7 @@ fn refusals_of_the_page_writer() {
         definition_count: 0,
         span_count: 0,
         page_length: 0,
+        text: 0,
         definition_rows: None,
         span_rows: None,
         page: None,
@@ -80,28 +88,31 @@ fn refusals_of_the_page_writer() {
         ..refused(number, value)
     };
     let long = vec![0; 32_769];
-    assert_eq!(second::render(&long, 0, 0, 0), refused(1, 32_769));
-    assert_eq!(second::render(&long[..9], 0, 0, 0), refused(2, 0));
+    assert_eq!(second::render(&long, b"", 0, 0, 0), refused(1, 32_769));
+    assert_eq!(second::render(&long[..9], b"", 0, 0, 0), refused(2, 0));
     assert_eq!(
-        second::render(deep.as_bytes(), DEFINITIONS - 1, 0, 0),
+        second::render(deep.as_bytes(), b"", DEFINITIONS - 1, 0, 0),
         refused(3, 2)
     );
     assert_eq!(
-        second::render(deep.as_bytes(), DEFINITIONS, 0, 0),
+        second::render(deep.as_bytes(), b"", DEFINITIONS, 0, 0),
         with_definitions(4, 20 + 1_024)
     );
     let note = NOTE.as_bytes();
     assert_eq!(
-        second::render(note, DEFINITIONS, SPANS - 1, 0),
+        second::render(note, b"", DEFINITIONS, SPANS - 1, 0),
         with_definitions(5, 2)
     );
     let short_page = RenderAnswer {
         span_rows: Some(NOTE_SPANS.to_vec()),
         ..with_definitions(6, 41)
     };
-    assert_eq!(second::render(note, DEFINITIONS, SPANS, 0), short_page);
-    assert_eq!(second::render(note, DEFINITIONS, SPANS, 40), short_page);
-    assert_eq!(second::render(note, DEFINITIONS, SPANS, 41).number, 0);
+    assert_eq!(second::render(note, b"", DEFINITIONS, SPANS, 0), short_page);
+    assert_eq!(
+        second::render(note, b"", DEFINITIONS, SPANS, 40),
+        short_page
+    );
+    assert_eq!(second::render(note, b"", DEFINITIONS, SPANS, 41).number, 0);
 }
 
 #[test]
@@ -114,7 +125,7 @@ fn memory_past_the_part_in_use_is_unchanged() {
     let definitions_after = table_with_rows(NOTE_DEFINITIONS.concat(), &[7; 3]);
     let spans_after = table_with_rows(NOTE_SPANS.concat(), &[8; 3]);
 
-    let answer = second::render(note, DEFINITIONS + 3, SPANS + 3, 45);
+    let answer = second::render(note, b"", DEFINITIONS + 3, SPANS + 3, 45);
     assert_eq!(
         answer.definition_table(&definitions_before),
         definitions_after
@@ -124,7 +135,7 @@ fn memory_past_the_part_in_use_is_unchanged() {
         answer.page_buffer(&page_before),
         [NOTE_PAGE.as_bytes(), &[9; 4]].concat()
     );
-    let answer = second::render(note, DEFINITIONS + 3, SPANS + 3, 40);
+    let answer = second::render(note, b"", DEFINITIONS + 3, SPANS + 3, 40);
     assert_eq!(
         answer.definition_table(&definitions_before),
         definitions_after
@@ -132,14 +143,14 @@ fn memory_past_the_part_in_use_is_unchanged() {
     assert_eq!(answer.span_table(&spans_before), spans_after);
     assert_eq!(answer.page_buffer(&page_before[..40]), [9; 40]);
 
-    let answer = second::read(note, DEFINITIONS + 3, SPANS - 1);
+    let answer = second::read(note, b"", DEFINITIONS + 3, SPANS - 1);
     assert_eq!(
         answer.definition_table(&definitions_before),
         definitions_after
     );
     let too_few = &spans_before[..SPANS - 1];
     assert_eq!(answer.span_table(too_few), too_few);
-    let answer = second::read(note, DEFINITIONS - 1, SPANS + 3);
+    let answer = second::read(note, b"", DEFINITIONS - 1, SPANS + 3);
     let too_few = &definitions_before[..DEFINITIONS - 1];
     assert_eq!(answer.definition_table(too_few), too_few);
     assert_eq!(answer.span_table(&spans_before), spans_before);
@@ -193,56 +204,49 @@ fn refusal_2_where_the_first_bad_character_starts() {
 #[test]
 fn enquiries() {
     let note = NOTE.as_bytes();
-    assert_eq!(second::resolve(note, b"a"), found(5, 7));
-    assert_eq!(second::resolve(note, b" B\n"), found(13, 15));
-    assert_eq!(second::resolve(note, b"c"), refused_enquiry(7, 0));
+    assert_eq!(resolve(note, b"a"), found(5, 7));
+    assert_eq!(resolve(note, b" B\n"), found(13, 15));
+    assert_eq!(resolve(note, b"c"), refused_enquiry(7, 0));
     // Not exactly one label.
     let no_labels: [&[u8]; 13] = [
         b"", b" ", b" \t\n", b"a]", b"]", b"[", b"[a]", b"a\\", b"a][b", b"a\0", b"a\r", b"\xff",
         b"a\xc3",
     ];
     for label in no_labels {
-        assert_eq!(
-            second::resolve(note, label),
-            refused_enquiry(8, 0),
-            "{label:?}"
-        );
+        assert_eq!(resolve(note, label), refused_enquiry(8, 0), "{label:?}");
     }
     for label in ["\\]", "\\[", "\\\\", "a\\b"] {
         assert_eq!(
-            second::resolve(note, label.as_bytes()),
+            resolve(note, label.as_bytes()),
             refused_enquiry(7, 0),
             "{label:?}"
         );
     }
     // "The enquiry checks 1, 2, 8, 7."
     let long = [b'a'; 32_769];
-    assert_eq!(second::resolve(&long, b""), refused_enquiry(1, 32_769));
-    assert_eq!(second::resolve(b"abc\r", b""), refused_enquiry(2, 3));
+    assert_eq!(resolve(&long, b""), refused_enquiry(1, 32_769));
+    assert_eq!(resolve(b"abc\r", b""), refused_enquiry(2, 3));
     // And no other: brackets too deep are no matter of the enquiry's.
     let deep = format!("{}\n\n[a]: b", "[".repeat(1_025));
-    assert_eq!(second::resolve(deep.as_bytes(), b"a"), found(1_032, 1_033));
+    assert_eq!(resolve(deep.as_bytes(), b"a"), found(1_032, 1_033));
 }
 
 #[test]
 fn enquiries_of_special_destinations() {
     // "a destination `<>` is empty too, and only the answer number tells them apart".
-    assert_eq!(second::resolve(b"[a]: <>", b"a"), found(6, 6));
+    assert_eq!(resolve(b"[a]: <>", b"a"), found(6, 6));
     // "escapes undone nowhere".
-    assert_eq!(second::resolve(b"[a]: b\\!", b"a"), found(5, 8));
+    assert_eq!(resolve(b"[a]: b\\!", b"a"), found(5, 8));
     // The first of equal labels.
-    assert_eq!(second::resolve(b"[a]: 1\n[A]: 2", b"A"), found(5, 6));
+    assert_eq!(resolve(b"[a]: 1\n[A]: 2", b"A"), found(5, 6));
     // Bytes with two LFs in a row can be a label for the enquiry.
-    assert_eq!(second::resolve(b"[a b]: 1", b"a\n\nb"), found(7, 8));
+    assert_eq!(resolve(b"[a b]: 1", b"a\n\nb"), found(7, 8));
     // "Undoing escapes before comparing labels: `[foo\!]` is not `[foo!]`."
-    assert_eq!(
-        second::resolve(b"[foo\\!]: 1", b"foo!"),
-        refused_enquiry(7, 0)
-    );
-    assert_eq!(second::resolve(b"[foo\\!]: 1", b"FOO\\!"), found(9, 10));
+    assert_eq!(resolve(b"[foo\\!]: 1", b"foo!"), refused_enquiry(7, 0));
+    assert_eq!(resolve(b"[foo\\!]: 1", b"FOO\\!"), found(9, 10));
     // Folding goes no further than A to Z.
     assert_eq!(
-        second::resolve("[É]: 1".as_bytes(), "é".as_bytes()),
+        resolve("[É]: 1".as_bytes(), "é".as_bytes()),
         refused_enquiry(7, 0)
     );
 }

@@ -1,139 +1,242 @@
-//! What the tool prints of a note, against the second reader's rows and page.
+//! What the tool prints of a note and a sheet, against the second reader's rows and page.
 
 use std::ops::Range;
+use std::path::PathBuf;
 
 use host::json::{self, Value};
 use host::second::{self, kind, DefinitionRow, SpanRow};
 
-use crate::run::notice;
+use crate::run::{notice, Folder};
 
 /// Compares the tool with the second reader on a note that neither refuses.
 pub fn compare(note: &str) {
-    let bytes = note.as_bytes();
-    let wanted = second::render(bytes, usize::MAX, usize::MAX, usize::MAX);
-    assert_eq!(wanted.number, second::number::SUCCESS, "{note:?}");
-    let page = notice(&["page", "-"], bytes).good();
-    assert_eq!(Some(page.into_bytes()), wanted.page, "{note:?}");
-    let text = notice(&["links", "--json", "-"], bytes).good();
-    let listed = json::parse(&text).unwrap_or_else(|error| panic!("{note:?}: {error}\n{text}"));
-    let definitions = wanted.definition_rows.expect("rows on success");
-    compare_definitions(note, items(&listed, "definitions"), &definitions);
-    let spans = wanted.span_rows.expect("rows on success");
-    compare_spans(note, &listed, &spans, &definitions);
-    compare_table(note, &definitions, &spans);
+    Texts { note, sheet: None }.compare();
 }
 
-fn compare_definitions(note: &str, listed: &[Value], rows: &[DefinitionRow]) {
-    assert_eq!(listed.len(), rows.len(), "{note:?}");
-    for (index, (item, row)) in listed.iter().zip(rows).enumerate() {
-        let [label, destination, title] =
-            ["label", "destination", "title"].map(|key| part(note, item, key));
-        let parts = [label, destination, title].concat();
-        assert_eq!(
-            [parts, vec![number(item, "line")]].concat(),
-            row,
-            "{note:?}"
-        );
-        assert_eq!(number(item, "number"), index as u32 + 1);
-        assert_place(note, item, row[0] as usize - 1);
-        compare_hidden(note, item, index, rows);
+/// The same with a sheet beside the note.
+pub fn compare_beside(note: &str, sheet: &str) {
+    let folder = Folder::new();
+    let file = folder.write("sheet.md", sheet.as_bytes());
+    let sheet = Sheet { text: sheet, file };
+    let sheet = Some(&sheet);
+    Texts { note, sheet }.compare();
+}
+
+/// A sheet, and the file where it stands.
+#[derive(Debug)]
+struct Sheet<'t> {
+    text: &'t str,
+    file: PathBuf,
+}
+
+/// What the tool is given: a note on standard input, and a sheet or none.
+#[derive(Clone, Copy, Debug)]
+struct Texts<'t> {
+    note: &'t str,
+    sheet: Option<&'t Sheet<'t>>,
+}
+
+impl<'t> Texts<'t> {
+    fn compare(self) {
+        let [note, sheet] = [0, 1].map(|text| self.text(text).as_bytes());
+        let wanted = second::render(note, sheet, usize::MAX, usize::MAX, usize::MAX);
+        assert_eq!(wanted.number, second::number::SUCCESS, "{self:?}");
+        let page = self.run(&["page"], &[]);
+        assert_eq!(Some(page.into_bytes()), wanted.page, "{self:?}");
+        let text = self.run(&["links", "--json"], &[]);
+        let listed = json::parse(&text).unwrap_or_else(|error| panic!("{self:?}: {error}\n{text}"));
+        let definitions = wanted.definition_rows.expect("rows on success");
+        self.compare_definitions(items(&listed, "definitions"), &definitions);
+        let spans = wanted.span_rows.expect("rows on success");
+        self.compare_spans(&listed, &spans, &definitions);
+        self.compare_table(&definitions, &spans);
+        self.compare_enquiry(&definitions);
     }
-}
 
-/// The first row with an equal label, by the second reader.
-fn compare_hidden(note: &str, item: &Value, index: usize, rows: &[DefinitionRow]) {
-    let label = |row: &DefinitionRow| note[range(row[0], row[1])].as_bytes();
-    let own = &rows[index];
-    let equal = |row: &DefinitionRow| second::same_label(label(row), label(own));
-    let first = rows.iter().position(equal);
-    let first = first.expect("a row has its own label");
-    let hidden = item.get("hidden_by").expect("the key hidden_by");
-    if first == index {
-        assert_eq!(hidden, &Value::Null, "{note:?}");
-        return;
+    /// What the tool prints when it is given these words, the sheet, and these names before the note.
+    fn run(self, words: &[&str], names: &[&str]) -> String {
+        let mut words = words.to_vec();
+        if let Some(sheet) = self.sheet {
+            words.extend(["--sheet", sheet.file.to_str().expect("a plain name")]);
+        }
+        let words = [&words[..], &["--"], names, &["-"]].concat();
+        notice(&words, self.note.as_bytes()).good()
     }
-    let other = &rows[first];
-    let text = |row: &DefinitionRow, at: usize| {
-        (row[at + 1] != 0).then(|| note[range(row[at], row[at + 1])].to_string())
-    };
-    assert_eq!(number(hidden, "number"), first as u32 + 1, "{note:?}");
-    let line = 1 + note[..other[0] as usize].matches('\n').count();
-    assert_eq!(number(hidden, "line"), line as u32, "{note:?}");
-    for (key, at) in [("destination_differs", 2), ("title_differs", 4)] {
-        let differs = text(own, at) != text(other, at);
-        assert_eq!(
-            hidden.get(key),
-            Some(&Value::Bool(differs)),
-            "{note:?} {key}"
-        );
+
+    /// The text with this number.
+    fn text(self, text: u32) -> &'t str {
+        match text {
+            0 => self.note,
+            _ => self.sheet.map_or("", |sheet| sheet.text),
+        }
     }
-}
 
-fn compare_spans(note: &str, listed: &Value, rows: &[SpanRow], definitions: &[DefinitionRow]) {
-    let links = items(listed, "links").iter();
-    let codes = items(listed, "code_spans").iter();
-    let mut made: Vec<SpanRow> = links
-        .map(|item| link_row(note, item, definitions))
-        .chain(codes.map(|item| code_row(note, item)))
-        .collect();
-    made.sort_by_key(|row| row[2]);
-    assert_eq!(made, rows, "{note:?}");
-}
+    /// The part of a text.
+    fn part(self, text: u32, start: u32, end: u32) -> &'t str {
+        &self.text(text)[range(start, end)]
+    }
 
-fn link_row(note: &str, item: &Value, definitions: &[DefinitionRow]) -> SpanRow {
-    let kind = match item.get("kind").and_then(Value::as_str) {
-        Some("inline") => kind::INLINE,
-        Some("full") => kind::FULL,
-        Some("collapsed") => kind::COLLAPSED,
-        Some("shortcut") => kind::SHORTCUT,
-        other => panic!("{note:?}: kind {other:?}"),
-    };
-    let definition = match item.get("definition") {
-        Some(Value::Null) => 0,
-        _ => number(item, "definition"),
-    };
-    let line = definitions
-        .get((definition as usize).wrapping_sub(1))
-        .map(|row| 1 + note[..row[0] as usize].matches('\n').count());
-    let said = item.get("definition_line").and_then(Value::as_number);
-    assert_eq!(said, line.map(|line| line as f64), "{note:?}");
-    let [text, destination, title] =
-        ["text", "destination", "title"].map(|key| part(note, item, key));
-    span_row(note, item, kind, text, definition, [destination, title])
-}
+    /// The name of a text's file, where there are two.
+    fn file(self, text: u32) -> Option<&'t str> {
+        self.sheet.map(|sheet| match text {
+            0 => "-",
+            _ => sheet.file.to_str().expect("a plain name"),
+        })
+    }
 
-fn code_row(note: &str, item: &Value) -> SpanRow {
-    let text = part(note, item, "text");
-    span_row(note, item, kind::CODE_SPAN, text, 0, [[0, 0]; 2])
-}
+    /// The member names the text's file; where there is one file it is left out.
+    fn assert_file(self, item: &Value, key: &str, text: u32) {
+        let said = item.get(key).map(|name| name.as_str().expect("a name"));
+        assert_eq!(said, self.file(text), "{self:?} {key}");
+    }
 
-fn span_row(
-    note: &str,
-    item: &Value,
-    kind: u32,
-    text: [u32; 2],
-    definition: u32,
-    parts: [[u32; 2]; 2],
-) -> SpanRow {
-    let [start, end] = ["start", "end"].map(|key| number(item, key));
-    assert_place(note, item, start as usize);
-    let [[from, to], [title_from, title_to]] = parts;
-    let line = number(item, "line");
-    [
-        kind, start, end, text[0], text[1], definition, from, to, title_from, title_to, line,
-    ]
-}
+    fn compare_definitions(self, listed: &[Value], rows: &[DefinitionRow]) {
+        assert_eq!(listed.len(), rows.len(), "{self:?}");
+        for (index, (item, row)) in listed.iter().zip(rows).enumerate() {
+            let text = row[0];
+            self.assert_file(item, "file", text);
+            let [label, destination, title] =
+                ["label", "destination", "title"].map(|key| self.places(text, item, key));
+            let parts = [label, destination, title].concat();
+            let made = [vec![text], parts, vec![number(item, "line")]].concat();
+            assert_eq!(made, row, "{self:?}");
+            assert_eq!(number(item, "number"), index as u32 + 1);
+            self.assert_place(item, text, row[1] - 1);
+            self.compare_hidden(item, index, rows);
+        }
+    }
 
-/// The people's table has a line for each row, and no character that moves a terminal.
-fn compare_table(note: &str, definitions: &[DefinitionRow], spans: &[SpanRow]) {
-    let table = notice(&["links", "-"], note.as_bytes()).good();
-    let heads = table
-        .lines()
-        .filter(|line| line.starts_with("  LINE:COLUMN "));
-    let rows = table.lines().filter(|line| line.starts_with("  ")).count() - heads.count();
-    assert_eq!(rows, definitions.len() + spans.len(), "{note:?}\n{table}");
-    let moves = |character: char| character.is_control() && character != '\n';
-    assert!(!table.contains(moves), "{note:?}\n{table:?}");
+    /// The first row with an equal label, by the second reader.
+    fn compare_hidden(self, item: &Value, index: usize, rows: &[DefinitionRow]) {
+        let label = |row: &DefinitionRow| self.part(row[0], row[1], row[2]).as_bytes();
+        let own = &rows[index];
+        let equal = |row: &DefinitionRow| second::same_label(label(row), label(own));
+        let first = rows.iter().position(equal);
+        let first = first.expect("a row has its own label");
+        let hidden = item.get("hidden_by").expect("the key hidden_by");
+        if first == index {
+            assert_eq!(hidden, &Value::Null, "{self:?}");
+            return;
+        }
+        let other = &rows[first];
+        assert_eq!(number(hidden, "number"), first as u32 + 1, "{self:?}");
+        self.assert_file(hidden, "file", other[0]);
+        let (line, _) = place(self.text(other[0]), other[1]);
+        assert_eq!(number(hidden, "line"), line, "{self:?}");
+        let part = |row: &DefinitionRow, at: usize| {
+            (row[at + 1] != 0).then(|| self.part(row[0], row[at], row[at + 1]))
+        };
+        for (key, at) in [("destination_differs", 3), ("title_differs", 5)] {
+            let differs = part(own, at) != part(other, at);
+            let said = hidden.get(key);
+            assert_eq!(said, Some(&Value::Bool(differs)), "{self:?} {key}");
+        }
+    }
+
+    fn compare_spans(self, listed: &Value, rows: &[SpanRow], definitions: &[DefinitionRow]) {
+        let links = items(listed, "links").iter();
+        let codes = items(listed, "code_spans").iter();
+        let mut made: Vec<SpanRow> = links
+            .map(|item| self.link_row(item, definitions))
+            .chain(codes.map(|item| self.code_row(item)))
+            .collect();
+        made.sort_by_key(|row| row[2]);
+        assert_eq!(made, rows, "{self:?}");
+    }
+
+    fn link_row(self, item: &Value, definitions: &[DefinitionRow]) -> SpanRow {
+        let kind = match item.get("kind").and_then(Value::as_str) {
+            Some("inline") => kind::INLINE,
+            Some("full") => kind::FULL,
+            Some("collapsed") => kind::COLLAPSED,
+            Some("shortcut") => kind::SHORTCUT,
+            other => panic!("{self:?}: kind {other:?}"),
+        };
+        let definition = self.definition_number(item, definitions);
+        let target = match definition {
+            0 => 0,
+            number => definitions[number as usize - 1][0],
+        };
+        let parts = ["destination", "title"].map(|key| self.places(target, item, key));
+        self.span_row(item, kind, definition, parts)
+    }
+
+    /// The number of a reference's definition, after its file and line were compared; 0 for no reference.
+    fn definition_number(self, item: &Value, definitions: &[DefinitionRow]) -> u32 {
+        if item.get("definition") == Some(&Value::Null) {
+            let file = self.sheet.map(|_| &Value::Null);
+            assert_eq!(item.get("definition_file"), file, "{self:?}");
+            assert_eq!(item.get("definition_line"), Some(&Value::Null), "{self:?}");
+            return 0;
+        }
+        let definition = number(item, "definition");
+        let row = definitions[definition as usize - 1];
+        self.assert_file(item, "definition_file", row[0]);
+        let (line, _) = place(self.text(row[0]), row[1]);
+        assert_eq!(number(item, "definition_line"), line, "{self:?}");
+        definition
+    }
+
+    fn code_row(self, item: &Value) -> SpanRow {
+        self.span_row(item, kind::CODE_SPAN, 0, [[0, 0]; 2])
+    }
+
+    fn span_row(self, item: &Value, kind: u32, definition: u32, parts: [[u32; 2]; 2]) -> SpanRow {
+        let [start, end] = ["start", "end"].map(|key| number(item, key));
+        self.assert_place(item, 0, start);
+        let text = self.places(0, item, "text");
+        let [[from, to], [title_from, title_to]] = parts;
+        let line = number(item, "line");
+        [
+            kind, start, end, text[0], text[1], definition, from, to, title_from, title_to, line,
+        ]
+    }
+
+    /// The people's table has a line for each row, and no character that moves a terminal.
+    fn compare_table(self, definitions: &[DefinitionRow], spans: &[SpanRow]) {
+        let table = self.run(&["links"], &[]);
+        let is_head = |line: &&str| line.contains("  LINE:COLUMN  ");
+        let heads = table.lines().filter(is_head).count();
+        let rows = table.lines().filter(|line| line.starts_with("  ")).count() - heads;
+        assert_eq!(rows, definitions.len() + spans.len(), "{self:?}\n{table}");
+        let moves = |character: char| character.is_control() && character != '\n';
+        assert!(!table.contains(moves), "{self:?}\n{table:?}");
+    }
+
+    /// What the last label opens: its file, line and column.
+    fn compare_enquiry(self, rows: &[DefinitionRow]) {
+        let Some(row) = rows.last() else {
+            return;
+        };
+        let label = self.part(row[0], row[1], row[2]);
+        let [note, sheet] = [0, 1].map(|text| self.text(text).as_bytes());
+        let wanted = second::resolve(note, sheet, label.as_bytes());
+        let text = wanted.text as u32;
+        let (line, column) = place(self.text(text), wanted.destination.start as u32);
+        let file = self
+            .file(text)
+            .map_or(String::new(), |file| format!("{file} "));
+        let said = self.run(&["where"], &[label]);
+        let end = format!(", {file}line {line} (column {column})\n");
+        assert!(said.ends_with(&end), "{self:?}\n{said}, not {end}");
+    }
+
+    /// A part's place in a text, or 0, 0; what it says is the text's.
+    fn places(self, text: u32, item: &Value, key: &str) -> [u32; 2] {
+        let part = item.get(key).expect(key);
+        if part == &Value::Null {
+            return [0, 0];
+        }
+        let [start, end] = ["start", "end"].map(|key| number(part, key));
+        let said = part.get("text").and_then(Value::as_str);
+        assert_eq!(said, Some(self.part(text, start, end)), "{self:?} {key}");
+        [start, end]
+    }
+
+    fn assert_place(self, item: &Value, text: u32, at: u32) {
+        let said = (number(item, "line"), number(item, "column"));
+        assert_eq!(said, place(self.text(text), at), "{self:?}");
+    }
 }
 
 fn items<'v>(listed: &'v Value, key: &str) -> &'v [Value] {
@@ -148,23 +251,10 @@ fn range(start: u32, end: u32) -> Range<usize> {
     start as usize..end as usize
 }
 
-/// A part's place, or 0, 0; its text is the note's.
-fn part(note: &str, item: &Value, key: &str) -> [u32; 2] {
-    let part = item.get(key).expect(key);
-    if part == &Value::Null {
-        return [0, 0];
-    }
-    let [start, end] = ["start", "end"].map(|key| number(part, key));
-    let text = part.get("text").and_then(Value::as_str);
-    assert_eq!(text, Some(&note[range(start, end)]), "{note:?} {key}");
-    [start, end]
-}
-
-/// Line and column, by counting from the note's start.
-fn assert_place(note: &str, item: &Value, at: usize) {
-    let before = &note[..at];
+/// Line and column, by counting from the text's start.
+fn place(text: &str, at: u32) -> (u32, u32) {
+    let before = &text[..at as usize];
     let line = 1 + before.matches('\n').count();
     let column = 1 + before.chars().rev().take_while(|c| *c != '\n').count();
-    let said = (number(item, "line"), number(item, "column"));
-    assert_eq!(said, (line as u32, column as u32), "{note:?}");
+    (line as u32, column as u32)
 }

@@ -4,8 +4,19 @@ use std::path::{Path, PathBuf};
 
 use crate::run::{notice_in, Ran};
 
-const GOOD: [&str; 5] = ["formulary", "june", "max", "night-shift", "pump-library"];
+const GOOD: [&str; 7] = [
+    "formulary",
+    "june",
+    "limits",
+    "max",
+    "night-shift",
+    "pump-library",
+    "ward-round",
+];
 const REFUSED: &str = "too-deep";
+/// The sheet, and the notice that cites it.
+const SHEET: &str = "limits.md";
+const BESIDE: &str = "ward-round.md";
 
 fn host() -> &'static Path {
     Path::new(env!("CARGO_MANIFEST_DIR"))
@@ -33,10 +44,10 @@ fn all_examples_are_here() {
         .filter(|name| name.ends_with(".md"))
         .collect();
     names.sort();
-    let wanted = GOOD
-        .iter()
-        .chain([&REFUSED])
-        .map(|name| format!("{name}.md"));
+    let mut wanted = GOOD.to_vec();
+    wanted.push(REFUSED);
+    wanted.sort();
+    let wanted = wanted.iter().map(|name| format!("{name}.md"));
     assert_eq!(names, wanted.collect::<Vec<_>>());
 }
 
@@ -104,10 +115,58 @@ fn destinations() {
             "On Call",
             "tel:+00-555-0100, line 1 (column 12)\n",
         ),
+        (
+            "ward-round",
+            "placebin limit",
+            "/trials/7/placebin, line 1 (column 19)\n",
+        ),
     ];
     for (name, label, wanted) in answers {
         let file = format!("{name}.md");
         assert_eq!(run(&["where", label, &file]).good(), wanted, "{label:?}");
+    }
+}
+
+#[test]
+fn beside_the_sheet() {
+    let with_sheet = |words: &[&str]| run(&[words, &["--sheet", SHEET, BESIDE]].concat()).good();
+    let page = with_sheet(&["page"]);
+    assert_eq!(page, stored("ward-round.sheet.page.html"));
+    let standalone = with_sheet(&["page", "--standalone"]);
+    assert!(standalone.contains(&format!("<body>\n{page}</body>")));
+    assert!(standalone.contains(&format!("<title>{BESIDE}</title>")));
+    let table = with_sheet(&["links"]);
+    assert_eq!(table, stored("ward-round.sheet.links.txt"));
+    let json = with_sheet(&["links", "--json"]);
+    assert_eq!(json, stored("ward-round.sheet.links.json"));
+    assert_eq!(with_sheet(&["check"]), "");
+    let answers = [
+        (
+            "Placebin Limit",
+            "/trials/7/placebin, ward-round.md line 1 (column 19)\n",
+        ),
+        (
+            "specimen limit",
+            "/limits/2026-11/specimen, limits.md line 6 (column 19)\n",
+        ),
+        (
+            "renal\ndosing",
+            "</limits/2026-11/renal dosing>, limits.md line 9 (column 18)\n",
+        ),
+    ];
+    for (label, wanted) in answers {
+        assert_eq!(with_sheet(&["where", label]), wanted, "{label:?}");
+    }
+}
+
+/// Without the sheet the same labels open nothing and stand in the page as they are written.
+#[test]
+fn without_the_sheet() {
+    for label in ["Examplin limit", "Specimen limit", "pharmacy"] {
+        let alone = run(&["where", label, BESIDE]).bad(7);
+        assert!(alone.starts_with("ward-round.md:1:1: refusal 7: no definition in the note has "));
+        assert!(stored("ward-round.page.html").contains(&format!("[{label}]")));
+        assert!(!stored("ward-round.sheet.page.html").contains(&format!("[{label}]")));
     }
 }
 

@@ -10,17 +10,24 @@ use crate::run::{notice_in, Folder};
 const NOTE: &[u8] = b"Take `4 mg`.\n";
 const PAGE: &str = "<p>Take <code>4 mg</code>.</p>\n";
 
-/// What every command says of a file that can't be read.
+/// What every command says of a file that can't be read, be it the note's or the sheet's.
 fn unreadable(folder: &Path, name: &str) -> String {
     let page = notice_in(folder, &["page", name]).bad(74);
     for words in [
-        &["page", "--standalone", name][..],
-        &["links", name],
-        &["links", "--json", name],
-        &["where", "a", name],
-        &["check", name],
+        &["page", "--standalone"][..],
+        &["links"],
+        &["links", "--json"],
+        &["where", "a"],
+        &["check"],
     ] {
-        assert_eq!(notice_in(folder, words).bad(74), page, "{words:?}");
+        for files in [
+            &[name][..],
+            &["--sheet", name, "-"],
+            &["--sheet", "no-sheet", name],
+        ] {
+            let words = [words, files].concat();
+            assert_eq!(notice_in(folder, &words).bad(74), page, "{words:?}");
+        }
     }
     page
 }
@@ -92,6 +99,8 @@ fn names_that_start_with_a_dash() {
     assert!(run(&["page", "-x.md"])
         .bad(64)
         .contains("unknown option '-x.md'"));
+    let beside = run(&["page", "--sheet", "./-x.md", "--", "-x.md"]);
+    assert_eq!(beside.good(), PAGE);
 }
 
 #[test]

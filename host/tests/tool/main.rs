@@ -1,4 +1,5 @@
-//! The command-line tool: its commands on the examples and on hard notes, refusals, files, usage.
+//! The command-line tool: its commands on the examples and on hard notes, refusals, files, sheets,
+//! usage.
 
 mod compared;
 mod examples;
@@ -7,5 +8,6 @@ mod notes;
 mod output;
 mod refusals;
 mod run;
+mod sheets;
 mod usage;
 mod wrapper;

@@ -3,26 +3,11 @@
 use std::ffi::OsStr;
 use std::os::unix::ffi::OsStrExt;
 
-use crate::run::{notice, Ran};
+use crate::run::{self, notice};
 
-/// The line of a refusal of the note, after every command that reads the whole note said it alike.
+/// The line of a refusal of the note.
 fn refused(note: &[u8], status: i32) -> String {
-    let Ran {
-        status: ended,
-        out,
-        err,
-    } = notice(&["check", "-"], note);
-    assert_eq!((ended, err.as_str()), (Some(status), ""), "{out}");
-    assert!(out.ends_with('\n') && out.lines().count() == 1, "{out:?}");
-    for words in [
-        &["page", "-"][..],
-        &["page", "--standalone", "-"],
-        &["links", "-"],
-        &["links", "--json", "-"],
-    ] {
-        assert_eq!(notice(words, note).bad(status), out, "{words:?}");
-    }
-    out
+    run::refused(|words| notice(&[words, &["-"]].concat(), note), status)
 }
 
 /// What the enquiry says of a note and a label that it refuses.

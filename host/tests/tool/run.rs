@@ -55,6 +55,27 @@ pub fn notice_in(folder: &Path, words: &[impl AsRef<OsStr>]) -> Ran {
     Ran::of(output.expect("the tool runs"))
 }
 
+/// The line of a refusal, after every command that reads whole notes said it alike. `run` is given a
+/// command's words without its files.
+pub fn refused(run: impl Fn(&[&str]) -> Ran, status: i32) -> String {
+    let Ran {
+        status: ended,
+        out,
+        err,
+    } = run(&["check"]);
+    assert_eq!((ended, err.as_str()), (Some(status), ""), "{out}");
+    assert!(out.ends_with('\n') && out.lines().count() == 1, "{out:?}");
+    for words in [
+        &["page"][..],
+        &["page", "--standalone"],
+        &["links"],
+        &["links", "--json"],
+    ] {
+        assert_eq!(run(words).bad(status), out, "{words:?}");
+    }
+    out
+}
+
 /// Runs the tool with a note on standard input.
 pub fn notice(words: &[impl AsRef<OsStr>], note: &[u8]) -> Ran {
     Ran::of(notice_bytes(words, note))

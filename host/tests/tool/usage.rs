@@ -37,6 +37,7 @@ fn help_names_every_command_option_and_status() {
         "check",
         "--standalone",
         "--json",
+        "--sheet FILE",
         "--",
     ] {
         assert!(help.contains(word), "{word}");
@@ -44,6 +45,19 @@ fn help_names_every_command_option_and_status() {
     for status in ["0", "1", "2", "4", "7", "8", "64", "69", "70", "71", "74"] {
         assert!(help.contains(&format!("\n{status:>4}  ")), "{status}");
     }
+}
+
+/// Says what is wrong, and where to read on.
+fn assert_wrong(words: &[&str], wanted: &str) {
+    let err = notice(words, NOTE).bad(64);
+    assert!(
+        err.starts_with(&format!("notice: {wanted}")),
+        "{words:?}: {err}"
+    );
+    assert!(
+        err.ends_with("See notice --help for how it is used.\n"),
+        "{words:?}"
+    );
 }
 
 #[test]
@@ -65,15 +79,28 @@ fn wrong_usage() {
         (&["where", "-max", "-"], "unknown option '-max'"),
     ];
     for (words, wanted) in lines {
-        let err = notice(words, NOTE).bad(64);
-        assert!(
-            err.starts_with(&format!("notice: {wanted}")),
-            "{words:?}: {err}"
-        );
-        assert!(
-            err.ends_with("See notice --help for how it is used.\n"),
-            "{words:?}"
-        );
+        assert_wrong(words, wanted);
+    }
+}
+
+#[test]
+fn wrong_sheets() {
+    let no_file = "--sheet needs a FILE after it";
+    let one = "only one --sheet may be given";
+    let both = "standard input (-) can't be both the notice and the sheet";
+    let lines: [(&[&str], &str); 9] = [
+        (&["--sheet"], no_file),
+        (&["page", "-", "--sheet"], no_file),
+        (&["links", "--sheet", "--json", "-"], no_file),
+        (&["check", "--sheet", "--", "-"], no_file),
+        (&["page", "--sheet", "a", "--sheet", "a", "-"], one),
+        (&["page", "--sheet", "a"], "exactly one FILE is needed"),
+        (&["page", "--sheet=a", "-"], "unknown option '--sheet=a'"),
+        (&["check", "--sheet", "-", "-"], both),
+        (&["where", "max", "-", "--sheet", "-"], both),
+    ];
+    for (words, wanted) in lines {
+        assert_wrong(words, wanted);
     }
 }
 

@@ -1,6 +1,6 @@
--- Five numbers make a header.
+-- Six numbers make a header.
 use borrow.Author.Needs.{needs}
-use Rattle.container.proofs.HeaderLine.{cased, no-note, no-label}
+use Rattle.container.proofs.HeaderLine.{cased, no-page, no-note, no-sheet, no-label}
 use Rattle.container.proofs.header_with.Statement.{statement}
 use Rattle.container.proofs.header_with.Tie as tie
 
@@ -29,7 +29,7 @@ enum-told-3 : tie.Need-enum-told-3
 enum-told-3 c = search needs
 
 returns-3 : tie.Need-returns-3
-returns-3 c = search needs
+returns-3 c = search (no-page, needs)
 
 enum-known-note : tie.Need-enum-known-note
 enum-known-note c = search needs
@@ -40,17 +40,26 @@ enum-told-4 c = search needs
 returns-4 : tie.Need-returns-4
 returns-4 c = search (no-note, needs)
 
-enum-known-label : tie.Need-enum-known-label
-enum-known-label c = search needs
+enum-known-sheet : tie.Need-enum-known-sheet
+enum-known-sheet c = search needs
 
 enum-told-5 : tie.Need-enum-told-5
 enum-told-5 c = search needs
 
 returns-5 : tie.Need-returns-5
-returns-5 c = search (no-label, needs)
+returns-5 c = search (no-sheet, needs)
+
+enum-known-label : tie.Need-enum-known-label
+enum-known-label c = search needs
+
+enum-told-6 : tie.Need-enum-told-6
+enum-told-6 c = search needs
 
 returns-6 : tie.Need-returns-6
-returns-6 c = search (cased, needs)
+returns-6 c = search (no-label, needs)
+
+returns-7 : tie.Need-returns-7
+returns-7 c = search (cased, needs)
 
 pub header-with-spec : {M : Type 1} → statement M
 header-with-spec =
@@ -68,7 +77,10 @@ header-with-spec =
     enum-known-note
     enum-told-4
     returns-4
-    enum-known-label
+    enum-known-sheet
     enum-told-5
     returns-5
-    returns-6)
+    enum-known-label
+    enum-told-6
+    returns-6
+    returns-7)

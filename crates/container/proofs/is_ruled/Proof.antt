@@ -18,8 +18,11 @@ peek-requires-4 c κs = search needs
 peek-requires-5 : tie.Need-peek-requires-5
 peek-requires-5 c κs = search needs
 
+peek-requires-6 : tie.Need-peek-requires-6
+peek-requires-6 c κs = search needs
+
 returns : tie.Need-returns
-returns c = rw (c .before .before .before .before .peek .ensures, c .before .before .before .peek2 .ensures, c .before .before .peek3 .ensures, c .before .peek4 .ensures, c .peek5 .ensures)
+returns c = rw (c .before .before .before .before .before .peek .ensures, c .before .before .before .before .peek2 .ensures, c .before .before .before .peek3 .ensures, c .before .before .peek4 .ensures, c .before .peek5 .ensures, c .peek6 .ensures)
 
 pub is-ruled-spec : {M : Type 1} → statement M
 is-ruled-spec =
@@ -30,4 +33,5 @@ is-ruled-spec =
     peek-requires-3
     peek-requires-4
     peek-requires-5
+    peek-requires-6
     returns)

@@ -1,4 +1,4 @@
--- A ruled line has 35 bytes, so that each number lies within it.
+-- A ruled line has 42 bytes, so that each number lies within it.
 use borrow.Author.Needs.{needs}
 use native.Mathlib.Omega.{arith}
 use denote.Ref.{now}
@@ -69,6 +69,18 @@ part-read-number-end-5 c = omega (arith, ruled-length (now (c .before .before .b
 read-number-requires-5 : tie.Need-read-number-requires-5
 read-number-requires-5 c κs = search needs
 
+sub-read-number-6 : tie.Need-sub-read-number-6
+sub-read-number-6 c = search needs
+
+part-read-number-start-6 : tie.Need-part-read-number-start-6
+part-read-number-start-6 c = search needs
+
+part-read-number-end-6 : tie.Need-part-read-number-end-6
+part-read-number-end-6 c = omega (arith, ruled-length (now (c .before .before .before .before .before .before .before .before .before .before .before .before .before .args .line)) (c .before .before .before .before .before .before .before .before .before .before .before .is-ruled .ensures) (c .before .before .before .before .before .before .before .before .before .before .if1 .taken))
+
+read-number-requires-6 : tie.Need-read-number-requires-6
+read-number-requires-6 c κs = search needs
+
 header-with-requires : tie.Need-header-with-requires
 header-with-requires c κs = search needs
 
@@ -103,6 +115,10 @@ read-header-spec =
     part-read-number-start-5
     part-read-number-end-5
     read-number-requires-5
+    sub-read-number-6
+    part-read-number-start-6
+    part-read-number-end-6
+    read-number-requires-6
     header-with-requires
     returns
     returns-2)

@@ -9,10 +9,10 @@ use Rattle.enquiry.proofs.find.Tie as tie
 ruleset turns = (starts, stands, none-equal, label-ordered, label-inside, less, equal, other, needs)
 
 abbrev Inv-definitions : tie.InvT-definitions
-Inv-definitions note label c₀ c = Searching note label c
+Inv-definitions s k label c₀ c = Searching s k label c
 
 abbrev μ-definitions : tie.MeasureT-definitions
-μ-definitions note label c₀ c = length note - c .at
+μ-definitions s k label c₀ c = length s - c .at
 
 definitions-holds : tie.Need-definitions-holds Inv-definitions μ-definitions
 definitions-holds c = search turns

@@ -1,22 +1,23 @@
 -- Each return keeps the promise, by what was counted, stored and compared before it.
 use borrow.Author.Needs.{needs}
-use Rattle.notice.proofs.Returns.{too-long, not-good, short, too-few, none-defined, none-read, defined, all-read}
+use Rattle.texts.specs.Texts.{texts}
+use Rattle.notice.proofs.Returns.{too-long, not-good, short-note, short-sheet, too-few, none-defined, none-read, defined, all-read}
 use Rattle.notice.proofs.read.Statement.{statement}
 use Rattle.notice.proofs.read.Tie as tie
 
-ruleset returning = (too-long, not-good, short, too-few, defined, all-read, needs)
+ruleset returning = (too-long, not-good, too-few, defined, all-read, needs)
 
 check-requires : tie.Need-check-requires
 check-requires c κs = search needs
 
-enum-known-n : tie.Need-enum-known-n
-enum-known-n c = search needs
+enum-known-x : tie.Need-enum-known-x
+enum-known-x c = search needs
 
 returns : tie.Need-returns
 returns c = search returning
 
-enum-known-k : tie.Need-enum-known-k
-enum-known-k c = search needs
+enum-known-x-2 : tie.Need-enum-known-x-2
+enum-known-x-2 c = search needs
 
 returns-2 : tie.Need-returns-2
 returns-2 c = search returning
@@ -24,14 +25,14 @@ returns-2 c = search returning
 enum-told : tie.Need-enum-told
 enum-told c = search needs
 
-slice-relend-prefix-fill-definitions : tie.Need-slice-relend-prefix-fill-definitions
-slice-relend-prefix-fill-definitions c = search needs
+slice-relend-prefix-fill-joined : tie.Need-slice-relend-prefix-fill-joined
+slice-relend-prefix-fill-joined c = search needs
 
-slice-aggregate-fill-definitions : tie.Need-slice-aggregate-fill-definitions
-slice-aggregate-fill-definitions c = search needs
+slice-aggregate-fill-joined : tie.Need-slice-aggregate-fill-joined
+slice-aggregate-fill-joined c = search needs
 
-fill-definitions-requires : tie.Need-fill-definitions-requires
-fill-definitions-requires c κs = search returning
+fill-joined-requires : tie.Need-fill-joined-requires
+fill-joined-requires c κs = let e = c .before .before .before .check .ensures .answer in let g = c .before .enum-told .given .1 in (short-note (texts (c .before .before .before .before .before .before .before .before .args .note .now) (c .before .before .before .before .before .before .before .before .args .sheet .now)) e g, short-sheet (texts (c .before .before .before .before .before .before .before .before .args .note .now) (c .before .before .before .before .before .before .before .before .args .sheet .now)) e g)
 
 whole-rows-requires : tie.Need-whole-rows-requires
 whole-rows-requires c κs = search needs
@@ -47,9 +48,9 @@ read-spans-requires c κs =
     let compared = c .before .before .before in
     let counted = compared .before .before .before .before .before in
     let checked = counted .before .before .before .before in
-    let start = checked .before .before .before .before in
-    none-defined _ (start .args .definitions .now) (start .args .spans .now) (checked .check .ensures .answer) (counted .before .before .enum-told .given .1)
-    (counted .fill-definitions .ensures .1) (counted .fill-definitions .ensures .0) (compared .before .whole-rows .ensures) (compared .if1 .left)
+    let start = checked .before .before .before .before .before in
+    none-defined (texts (start .args .note .now) (start .args .sheet .now)) (start .args .definitions .now) (start .args .spans .now) (checked .check .ensures .answer) (counted .before .before .enum-told .given .1)
+    (counted .fill-joined .ensures .1) (counted .fill-joined .ensures .0) (compared .before .whole-rows .ensures) (compared .if1 .left)
     (c .before .before .if2 .taken)
 
 same-length-2 : tie.Need-same-length-2
@@ -64,13 +65,13 @@ returns-4 c =
     let compared = read .before .before .before .before in
     let counted = compared .before .before .before .before .before in
     let checked = counted .before .before .before .before in
-    let start = checked .before .before .before .before in
-    none-read _ (start .args .definitions .now) (start .args .spans .now) (checked .check .ensures .answer) (counted .before .before .enum-told .given .1)
-    (counted .fill-definitions .ensures .1) (counted .fill-definitions .ensures .0) (compared .before .whole-rows .ensures) (compared .if1 .left)
+    let start = checked .before .before .before .before .before in
+    none-read (texts (start .args .note .now) (start .args .sheet .now)) (start .args .definitions .now) (start .args .spans .now) (checked .check .ensures .answer) (counted .before .before .enum-told .given .1)
+    (counted .fill-joined .ensures .1) (counted .fill-joined .ensures .0) (compared .before .whole-rows .ensures) (compared .if1 .left)
     (read .before .before .before .if2 .taken) (read .read-spans .ensures)
 
-fill-definitions-requires-2 : tie.Need-fill-definitions-requires-2
-fill-definitions-requires-2 c κs = search returning
+fill-joined-requires-2 : tie.Need-fill-joined-requires-2
+fill-joined-requires-2 c κs = let e = c .before .before .before .before .before .before .before .before .before .before .before .check .ensures .answer in let g = c .before .before .before .before .before .before .before .before .before .enum-told .given .1 in (short-note (texts (c .before .before .before .before .before .before .before .before .before .before .before .before .before .before .before .before .args .note .now) (c .before .before .before .before .before .before .before .before .before .before .before .before .before .before .before .before .args .sheet .now)) e g, short-sheet (texts (c .before .before .before .before .before .before .before .before .before .before .before .before .before .before .before .before .args .note .now) (c .before .before .before .before .before .before .before .before .before .before .before .before .before .before .before .before .args .sheet .now)) e g)
 
 read-spans-requires-2 : tie.Need-read-spans-requires-2
 read-spans-requires-2 c κs =
@@ -78,10 +79,10 @@ read-spans-requires-2 c κs =
     let compared = stored .before .before .before in
     let counted = compared .before .before .before .before .before in
     let checked = counted .before .before .before .before in
-    let start = checked .before .before .before .before in
-    defined _ (start .args .definitions .now) (start .args .spans .now) (checked .check .ensures .answer) (counted .before .before .enum-told .given .1)
-    (counted .fill-definitions .ensures .1) (counted .fill-definitions .ensures .0) (compared .before .whole-rows .ensures) (compared .if1 .left)
-    (stored .fill-definitions2 .ensures .1)
+    let start = checked .before .before .before .before .before in
+    defined (texts (start .args .note .now) (start .args .sheet .now)) (start .args .definitions .now) (start .args .spans .now) (checked .check .ensures .answer) (counted .before .before .enum-told .given .1)
+    (counted .fill-joined .ensures .1) (counted .fill-joined .ensures .0) (compared .before .whole-rows .ensures) (compared .if1 .left)
+    (stored .fill-joined2 .ensures .1)
 
 same-length-4 : tie.Need-same-length-4
 same-length-4 c = search needs
@@ -97,14 +98,14 @@ read-spec =
     tie.close
     (tie.spec
     check-requires
-    enum-known-n
+    enum-known-x
     returns
-    enum-known-k
+    enum-known-x-2
     returns-2
     enum-told
-    slice-relend-prefix-fill-definitions
-    slice-aggregate-fill-definitions
-    fill-definitions-requires
+    slice-relend-prefix-fill-joined
+    slice-aggregate-fill-joined
+    fill-joined-requires
     whole-rows-requires
     same-length
     returns-3
@@ -112,7 +113,7 @@ read-spec =
     same-length-2
     same-length-3
     returns-4
-    fill-definitions-requires-2
+    fill-joined-requires-2
     read-spans-requires-2
     same-length-4
     same-length-5

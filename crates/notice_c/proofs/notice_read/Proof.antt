@@ -19,9 +19,12 @@ definition-count-requires c κs = search needs
 span-count-requires : tie.Need-span-count-requires
 span-count-requires c κs = search needs
 
+text-requires : tie.Need-text-requires
+text-requires c κs = search needs
+
 cast-result : tie.Need-cast-result
 cast-result c =
-    let numbered = c .before .before .before .before in
+    let numbered = c .before .before .before .before .before in
     record { fits = number-small (numbered .before .before .before .before .before .read .result) (numbered .number .ensures) }
 
 same-length : tie.Need-same-length
@@ -32,10 +35,10 @@ same-length-2 c = search needs
 
 returns : tie.Need-returns
 returns c =
-    let counted = c .before in
+    let counted = c .before .before in
     let numbered = counted .before .before .before in
     let read = numbered .before .before .before .before .before in
-    read-kept (read .read .ensures) (numbered .number .ensures) (counted .before .before .value .ensures) (counted .before .definition-count .ensures) (counted .span-count .ensures)
+    read-kept (read .read .ensures) (numbered .number .ensures) (counted .before .before .value .ensures) (counted .before .definition-count .ensures) (counted .span-count .ensures) (c .before .text .ensures)
 
 pub notice-read-spec : {M : Type 1} → statement M
 notice-read-spec =
@@ -46,6 +49,7 @@ notice-read-spec =
     value-requires
     definition-count-requires
     span-count-requires
+    text-requires
     cast-result
     same-length
     same-length-2

@@ -22,9 +22,12 @@ span-count-requires c κs = search needs
 page-length-requires : tie.Need-page-length-requires
 page-length-requires c κs = search needs
 
+text-requires : tie.Need-text-requires
+text-requires c κs = search needs
+
 cast-result : tie.Need-cast-result
 cast-result c =
-    let numbered = c .before .before .before .before .before in
+    let numbered = c .before .before .before .before .before .before in
     record { fits = number-small (numbered .before .before .before .before .before .before .before .render .result) (numbered .number .ensures) }
 
 same-length : tie.Need-same-length
@@ -38,7 +41,7 @@ same-length-3 c = search needs
 
 returns : tie.Need-returns
 returns c =
-    let measured = c .before in
+    let measured = c .before .before in
     let counted = measured .before in
     let numbered = counted .before .before .before in
     let rendered = numbered .before .before .before .before .before .before .before in
@@ -49,6 +52,7 @@ returns c =
     (counted .before .definition-count .ensures)
     (counted .span-count .ensures)
     (measured .page-length .ensures)
+    (c .before .text .ensures)
 
 pub notice-render-spec : {M : Type 1} → statement M
 notice-render-spec =
@@ -60,6 +64,7 @@ notice-render-spec =
     definition-count-requires
     span-count-requires
     page-length-requires
+    text-requires
     cast-result
     same-length
     same-length-2

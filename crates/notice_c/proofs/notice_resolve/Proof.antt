@@ -1,4 +1,4 @@
--- The number is a 32-bit number, and the part ends within the note; what is stored and returned are the numbers of the enquiry's answer.
+-- The number is a 32-bit number, and the part ends within its text; what is stored and returned are the numbers of the enquiry's answer.
 use borrow.Author.Needs.{needs}
 use Rattle.notice_c.proofs.Resolve.{number-small, end-within, resolve-kept}
 use Rattle.notice_c.proofs.notice_resolve.Statement.{statement}
@@ -13,13 +13,14 @@ array-read-number c = search needs
 array-read-value : tie.Need-array-read-value
 array-read-value c = search needs
 
+array-read-text : tie.Need-array-read-text
+array-read-text c = search needs
+
 part-start-requires : tie.Need-part-start-requires
 part-start-requires c κs = search needs
 
 add-end : tie.Need-add-end
-add-end c =
-    let inside = end-within _ _ (c .before .resolve .ensures) (c .part-start .ensures) in
-    search needs
+add-end c = record { fits = end-within _ _ (c .before .resolve .ensures) (c .part-start .ensures) (search needs) (search needs) }
 
 cast-result : tie.Need-cast-result
 cast-result c = record { fits = number-small _ _ (c .before .before .resolve .ensures) }
@@ -34,6 +35,7 @@ notice-resolve-spec =
     resolve-requires
     array-read-number
     array-read-value
+    array-read-text
     part-start-requires
     add-end
     cast-result

@@ -1,13 +1,19 @@
 -- Each return keeps the promise, by what the reader answered and what was measured and written before it.
 use borrow.Author.Needs.{needs}
-use Rattle.rendering.proofs.Returns.{too-long, not-good, too-few-definitions, too-deep, too-few-spans, spanned, short-page, page-written}
+use Rattle.rendering.proofs.Returns.{too-long, not-good, too-few-definitions, too-deep, too-few-spans, spanned, listing, short-page, page-written}
 use Rattle.rendering.proofs.render.Statement.{statement}
 use Rattle.rendering.proofs.render.Tie as tie
 
-ruleset returning = (too-long, not-good, too-few-definitions, too-deep, too-few-spans, spanned, short-page, page-written, needs)
+ruleset returning = (too-long, not-good, too-few-definitions, too-deep, too-few-spans, short-page, page-written, needs)
 
 read-requires : tie.Need-read-requires
 read-requires c κs = search needs
+
+enum-known-x : tie.Need-enum-known-x
+enum-known-x c = search needs
+
+enum-known-x-2 : tie.Need-enum-known-x-2
+enum-known-x-2 c = search needs
 
 enum-known-n : tie.Need-enum-known-n
 enum-known-n c = search needs
@@ -17,12 +23,6 @@ enum-known-k c = search needs
 
 enum-known-n-2 : tie.Need-enum-known-n-2
 enum-known-n-2 c = search needs
-
-enum-known-k-2 : tie.Need-enum-known-k-2
-enum-known-k-2 c = search needs
-
-enum-known-n-3 : tie.Need-enum-known-n-3
-enum-known-n-3 c = search needs
 
 enum-known-d : tie.Need-enum-known-d
 enum-known-d c = search needs
@@ -34,7 +34,7 @@ slice-aggregate-write-page : tie.Need-slice-aggregate-write-page
 slice-aggregate-write-page c = search needs
 
 write-page-requires : tie.Need-write-page-requires
-write-page-requires c κs = search returning
+write-page-requires c κs = let m = c .before .before .before .before .before .before .before .before .before .before .read .ensures in let e = c .before .before .before .before .d .given .1 in let p = c .before .before .before .before .before .before .before .before .before .before .before .before .before .before .before .before .before .before .args .page .now in (spanned p m e, listing p m e)
 
 same-length : tie.Need-same-length
 same-length c = search needs
@@ -49,7 +49,7 @@ returns : tie.Need-returns
 returns c = search returning
 
 write-page-requires-2 : tie.Need-write-page-requires-2
-write-page-requires-2 c κs = search returning
+write-page-requires-2 c κs = let m = c .before .before .before .before .before .before .before .before .before .before .before .before .before .before .before .before .before .read .ensures in let e = c .before .before .before .before .before .before .before .before .before .before .before .d .given .1 in let p = c .before .before .before .before .before .before .before .before .before .before .before .before .before .before .before .before .before .before .before .before .before .before .before .before .before .args .page .now in (spanned p m e, listing p m e)
 
 same-length-4 : tie.Need-same-length-4
 same-length-4 c = search needs
@@ -113,11 +113,11 @@ render-spec =
     tie.close
     (tie.spec
     read-requires
+    enum-known-x
+    enum-known-x-2
     enum-known-n
     enum-known-k
     enum-known-n-2
-    enum-known-k-2
-    enum-known-n-3
     enum-known-d
     slice-relend-prefix-write-page
     slice-aggregate-write-page

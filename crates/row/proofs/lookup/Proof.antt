@@ -1,30 +1,31 @@
 -- The rows left give what all of them do, and what is left of a row's label compares as the whole does.
 use borrow.Author.Needs.{needs}
 use borrow.Author.Tests.{not-true, not-false}
-use Prim.Native.Nat.{_-_, _*_, _^_, _≤_, _<_}
+use Prim.Native.Nat.{_+_, _-_, _*_, _^_, _<_}
 use native.Mathlib.Omega.{arith}
 use mathlib.Core.Path.{_≡_, refl, sym}
-use lib.ListN.{length, length-take, length-drop}
+use lib.ListN.{length}
 use Rattle.matching.specs.Reading.{equals, matches}
 use Rattle.matching.proofs.Turn as turn
 use Rattle.matching.proofs.Quick as quick
+use Rattle.texts.specs.Texts.{texts}
 use Rattle.row.specs.Row.{width}
 use Rattle.row.specs.Reading.{rowOf}
-use Rattle.row.proofs.Turn.{Stands, begins, part-within, hit, miss, none}
+use Rattle.row.proofs.Turn.{Stands, begins, label-within, hit, miss, none}
 use Rattle.row.proofs.lookup.Statement.{statement}
 use Rattle.row.proofs.lookup.Tie as tie
 
 abbrev Inv-loop : tie.InvT-loop
-Inv-loop note table count label first size at₀ start end own i₀ j₀ at i j = (at ≡ at₀) × (length own ≤ length note) × (length label < 2 ^ 64) × (equals (turn.formFrom own i) (turn.formFrom label j) ≡ matches own label)
+Inv-loop note sheet table count label first size at₀ own i₀ j₀ at i j = (at ≡ at₀) × (length own < 2 ^ 64) × (length label < 2 ^ 64) × (equals (turn.formFrom own i) (turn.formFrom label j) ≡ matches own label) × (at + width < 2 ^ 64)
 
 abbrev μ-loop : tie.MeasureT-loop
-μ-loop note table count label first size at₀ start end own i₀ j₀ at i j = length own - i
+μ-loop note sheet table count label first size at₀ own i₀ j₀ at i j = length own - i
 
 abbrev Inv-rows : tie.InvT-rows
-Inv-rows note table count label first size at₀ at = Stands note table label count at (rowOf note table label count)
+Inv-rows note sheet table count label first size at₀ at = Stands (texts note sheet) table label count at (rowOf (texts note sheet) table label count)
 
 abbrev μ-rows : tie.MeasureT-rows
-μ-rows note table count label first size at₀ at = count * width - at
+μ-rows note sheet table count label first size at₀ at = count * width - at
 
 peek-requires : tie.Need-peek-requires Inv-loop μ-loop Inv-rows μ-rows
 peek-requires c κs = search needs
@@ -35,17 +36,8 @@ mul-size c = search needs
 rows-holds : tie.Need-rows-holds Inv-loop μ-loop Inv-rows μ-rows
 rows-holds c = begins _ _ _ _
 
-range-at-requires : tie.Need-range-at-requires Inv-loop μ-loop Inv-rows μ-rows
-range-at-requires c κs = search needs
-
-sub-own : tie.Need-sub-own Inv-loop μ-loop Inv-rows μ-rows
-sub-own c = let w = part-within _ _ _ (c .before .before .rows .inv) (c .before .if1 .left) (c .range-at .ensures) (c .before .before .before .before .before .before .before .pre) in omega arith
-
-part-own-start : tie.Need-part-own-start Inv-loop μ-loop Inv-rows μ-rows
-part-own-start c = let w = part-within _ _ _ (c .before .before .rows .inv) (c .before .if1 .left) (c .range-at .ensures) (c .before .before .before .before .before .before .before .pre) in omega arith
-
-part-own-end : tie.Need-part-own-end Inv-loop μ-loop Inv-rows μ-rows
-part-own-end c = let w = part-within _ _ _ (c .before .before .rows .inv) (c .before .if1 .left) (c .range-at .ensures) (c .before .before .before .before .before .before .before .pre) in omega arith
+label-at-requires : tie.Need-label-at-requires Inv-loop μ-loop Inv-rows μ-rows
+label-at-requires c κs = (search needs, label-within _ _ _ (c .before .rows .inv) (c .if1 .left) (c .before .before .before .before .before .before .before .pre))
 
 peek-requires-2 : tie.Need-peek-requires-2 Inv-loop μ-loop Inv-rows μ-rows
 peek-requires-2 c κs = search needs
@@ -60,13 +52,13 @@ rows-less : tie.Need-rows-less Inv-loop μ-loop Inv-rows μ-rows
 rows-less c = search needs
 
 rows-again : tie.Need-rows-again Inv-loop μ-loop Inv-rows μ-rows
-rows-again c = miss _ _ _ (c .before .before .before .before .before .before .rows .inv) (c .before .before .before .before .before .if1 .left) (c .before .before .before .before .range-at .ensures) (quick.unlike-first _ _ (c .before .before .peek2 .ensures) (c .before .before .before .before .before .before .before .peek .ensures) (c .before .are-unlike .ensures) (c .if2 .taken))
+rows-again c = miss _ _ _ (c .before .before .before .before .before .rows .inv) (c .before .before .before .before .if1 .left) (c .before .before .before .label-at .ensures) (quick.unlike-first _ _ (c .before .before .peek2 .ensures) (c .before .before .before .before .before .before .peek .ensures) (c .before .are-unlike .ensures) (c .if2 .taken))
 
 same-start-requires : tie.Need-same-start-requires Inv-loop μ-loop Inv-rows μ-rows
 same-start-requires c κs = search needs
 
 loop-holds : tie.Need-loop-holds Inv-loop μ-loop Inv-rows μ-rows
-loop-holds c = (refl, simp (length-take, length-drop) (omega arith), search needs, quick.start-on _ _ (c .same-start .ensures))
+loop-holds c = (refl, search needs, search needs, quick.start-on _ _ (c .same-start .ensures), search needs)
 
 same-at-requires : tie.Need-same-at-requires Inv-loop μ-loop Inv-rows μ-rows
 same-at-requires c κs = search needs
@@ -81,7 +73,7 @@ loop-less : tie.Need-loop-less Inv-loop μ-loop Inv-rows μ-rows
 loop-less c = omega (arith, quick.same-left _ _ _ _ (c .before .same-at .ensures) (c .if3 .taken))
 
 loop-again : tie.Need-loop-again Inv-loop μ-loop Inv-rows μ-rows
-loop-again c = let l = c .before .before .loop in (search needs, search needs, search needs, quick.same-on _ _ (l .i) (l .j) (c .before .same-at .ensures) (c .if3 .taken) (l .inv .3))
+loop-again c = let l = c .before .before .loop in (search needs, search needs, search needs, quick.same-on _ _ (l .i) (l .j) (c .before .same-at .ensures) (c .if3 .taken) (l .inv .3), l .inv .4)
 
 past-blanks-requires : tie.Need-past-blanks-requires Inv-loop μ-loop Inv-rows μ-rows
 past-blanks-requires c κs = search needs
@@ -93,13 +85,13 @@ agree-at-requires : tie.Need-agree-at-requires Inv-loop μ-loop Inv-rows μ-rows
 agree-at-requires c κs = search needs
 
 add-at-2 : tie.Need-add-at-2 Inv-loop μ-loop Inv-rows μ-rows
-add-at-2 c = search needs
+add-at-2 c = let l = c .before .before .before .before .before .before .loop in omega (arith, l .inv .4)
 
 rows-less-2 : tie.Need-rows-less-2 Inv-loop μ-loop Inv-rows μ-rows
 rows-less-2 c = search needs
 
 rows-again-2 : tie.Need-rows-again-2 Inv-loop μ-loop Inv-rows μ-rows
-rows-again-2 c = let l = c .before .before .before .before .before .before .loop in rw (l .inv .0) (miss _ _ _ (c .before .before .before .before .before .before .before .before .before .before .before .before .before .before .rows .inv) (c .before .before .before .before .before .before .before .before .before .before .before .before .before .if1 .left) (c .before .before .before .before .before .before .before .before .before .before .before .before .range-at .ensures) (sym (turn.differ _ _ (l .i) (l .j) _ _ (c .before .before .before .past-blanks .ensures) (c .before .before .past-blanks2 .ensures) (c .before .agree-at .ensures) (l .inv .3) (not-true _ (c .if4 .taken)))))
+rows-again-2 c = let l = c .before .before .before .before .before .before .loop in rw (l .inv .0) (miss _ _ _ (c .before .before .before .before .before .before .before .before .before .before .before .before .before .rows .inv) (c .before .before .before .before .before .before .before .before .before .before .before .before .if1 .left) (c .before .before .before .before .before .before .before .before .before .before .before .label-at .ensures) (sym (turn.differ _ _ (l .i) (l .j) _ _ (c .before .before .before .past-blanks .ensures) (c .before .before .past-blanks2 .ensures) (c .before .agree-at .ensures) (l .inv .3) (not-true _ (c .if4 .taken)))))
 
 add-i-2 : tie.Need-add-i-2 Inv-loop μ-loop Inv-rows μ-rows
 add-i-2 c = search needs
@@ -111,13 +103,13 @@ loop-less-2 : tie.Need-loop-less-2 Inv-loop μ-loop Inv-rows μ-rows
 loop-less-2 c = omega (arith, turn.past-from _ _ _ (c .before .before .before .before .past-blanks .ensures))
 
 loop-again-2 : tie.Need-loop-again-2 Inv-loop μ-loop Inv-rows μ-rows
-loop-again-2 c = let l = c .before .before .before .before .before .before .before .loop in (search needs, search needs, search needs, turn.agreed _ _ (l .i) (l .j) _ _ (c .before .before .before .before .past-blanks .ensures) (c .before .before .before .past-blanks2 .ensures) (c .before .before .agree-at .ensures) (l .inv .3) (not-false _ (c .before .if4 .left)) (c .if5 .left))
+loop-again-2 c = let l = c .before .before .before .before .before .before .before .loop in (search needs, search needs, search needs, turn.agreed _ _ (l .i) (l .j) _ _ (c .before .before .before .before .past-blanks .ensures) (c .before .before .before .past-blanks2 .ensures) (c .before .before .agree-at .ensures) (l .inv .3) (not-false _ (c .before .if4 .left)) (c .if5 .left), l .inv .4)
 
 returns : tie.Need-returns Inv-loop μ-loop Inv-rows μ-rows
 returns c = none _ _ _ (c .before .rows .inv) (c .if1 .taken)
 
 returns-2 : tie.Need-returns-2 Inv-loop μ-loop Inv-rows μ-rows
-returns-2 c = let l = c .before .before .before .before .before .before .before .loop in rw (l .inv .0) (hit _ _ _ (c .before .before .before .before .before .before .before .before .before .before .before .before .before .before .before .rows .inv) (c .before .before .before .before .before .before .before .before .before .before .before .before .before .before .if1 .left) (c .before .before .before .before .before .before .before .before .before .before .before .before .before .range-at .ensures) (sym (turn.both-over _ _ (l .i) (l .j) _ _ (c .before .before .before .before .past-blanks .ensures) (c .before .before .before .past-blanks2 .ensures) (c .before .before .agree-at .ensures) (l .inv .3) (not-false _ (c .before .if4 .left)) (c .if5 .taken))))
+returns-2 c = let l = c .before .before .before .before .before .before .before .loop in rw (l .inv .0) (hit _ _ _ (c .before .before .before .before .before .before .before .before .before .before .before .before .before .before .rows .inv) (c .before .before .before .before .before .before .before .before .before .before .before .before .before .if1 .left) (c .before .before .before .before .before .before .before .before .before .before .before .before .label-at .ensures) (sym (turn.both-over _ _ (l .i) (l .j) _ _ (c .before .before .before .before .past-blanks .ensures) (c .before .before .before .past-blanks2 .ensures) (c .before .before .agree-at .ensures) (l .inv .3) (not-false _ (c .before .if4 .left)) (c .if5 .taken))))
 
 pub lookup-spec : {M : Type 1} → statement M
 lookup-spec =
@@ -130,10 +122,7 @@ lookup-spec =
     peek-requires
     mul-size
     rows-holds
-    range-at-requires
-    sub-own
-    part-own-start
-    part-own-end
+    label-at-requires
     peek-requires-2
     are-unlike-requires
     add-at

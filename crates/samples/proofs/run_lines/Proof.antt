@@ -5,6 +5,12 @@ use lib.ListN.{length-take}
 use Rattle.samples.proofs.run_lines.Statement.{statement}
 use Rattle.samples.proofs.run_lines.Tie as tie
 
+add-beside : tie.Need-add-beside
+add-beside c = search needs
+
+add-beside-end : tie.Need-add-beside-end
+add-beside-end c = search needs
+
 add-start : tie.Need-add-start
 add-start c = search needs
 
@@ -17,6 +23,9 @@ shared-slice-read-if1 c = search needs
 shared-slice-read-if1-2 : tie.Need-shared-slice-read-if1-2
 shared-slice-read-if1-2 c = search needs
 
+shared-slice-read-if1-3 : tie.Need-shared-slice-read-if1-3
+shared-slice-read-if1-3 c = search needs
+
 stop-requires : tie.Need-stop-requires
 stop-requires c κs = search needs
 
@@ -25,6 +34,15 @@ returns c = search needs
 
 slice-aggregate-note : tie.Need-slice-aggregate-note
 slice-aggregate-note c = simp length-take (omega arith)
+
+sub-sheet : tie.Need-sub-sheet
+sub-sheet c = search needs
+
+part-sheet-start : tie.Need-part-sheet-start
+part-sheet-start c = search needs
+
+part-sheet-end : tie.Need-part-sheet-end
+part-sheet-end c = search needs
 
 show-reading-requires : tie.Need-show-reading-requires
 show-reading-requires c κs = search needs
@@ -54,13 +72,19 @@ pub run-lines-spec : {M : Type 1} → statement M
 run-lines-spec =
     tie.close
     (tie.spec
+    add-beside
+    add-beside-end
     add-start
     add-end
     shared-slice-read-if1
     shared-slice-read-if1-2
+    shared-slice-read-if1-3
     stop-requires
     returns
     slice-aggregate-note
+    sub-sheet
+    part-sheet-start
+    part-sheet-end
     show-reading-requires
     show-rendering-requires
     sub-label

@@ -15,13 +15,13 @@ array-borrow-prefix-definition-room : tie.Need-array-borrow-prefix-definition-ro
 array-borrow-prefix-definition-room c = search needs
 
 slice-aggregate-definitions : tie.Need-slice-aggregate-definitions
-slice-aggregate-definitions c = simp length-take (omega (arith, c .before .before .before .before .pre .definitions))
+slice-aggregate-definitions c = simp length-take (omega (arith, c .before .before .before .before .before .pre .definitions))
 
 array-borrow-prefix-span-room : tie.Need-array-borrow-prefix-span-room
 array-borrow-prefix-span-room c = search needs
 
 slice-aggregate-spans : tie.Need-slice-aggregate-spans
-slice-aggregate-spans c = simp length-take (omega (arith, c .before .before .before .before .before .pre .spans))
+slice-aggregate-spans c = simp length-take (omega (arith, c .before .before .before .before .before .before .pre .spans))
 
 read-requires : tie.Need-read-requires
 read-requires c κs = search needs

@@ -18,19 +18,19 @@ array-borrow-prefix-definition-room : tie.Need-array-borrow-prefix-definition-ro
 array-borrow-prefix-definition-room c = search needs
 
 slice-aggregate-definitions : tie.Need-slice-aggregate-definitions
-slice-aggregate-definitions c = simp length-take (omega (arith, c .before .before .before .before .before .pre .definitions))
+slice-aggregate-definitions c = simp length-take (omega (arith, c .before .before .before .before .before .before .pre .definitions))
 
 array-borrow-prefix-span-room : tie.Need-array-borrow-prefix-span-room
 array-borrow-prefix-span-room c = search needs
 
 slice-aggregate-spans : tie.Need-slice-aggregate-spans
-slice-aggregate-spans c = simp length-take (omega (arith, c .before .before .before .before .before .before .pre .spans))
+slice-aggregate-spans c = simp length-take (omega (arith, c .before .before .before .before .before .before .before .pre .spans))
 
 array-borrow-prefix-page-room : tie.Need-array-borrow-prefix-page-room
 array-borrow-prefix-page-room c = search needs
 
 slice-aggregate-page : tie.Need-slice-aggregate-page
-slice-aggregate-page c = simp length-take (omega (arith, c .before .before .before .before .before .before .before .pre .page))
+slice-aggregate-page c = simp length-take (omega (arith, c .before .before .before .before .before .before .before .before .pre .page))
 
 render-requires : tie.Need-render-requires
 render-requires c κs = search needs

@@ -2,6 +2,7 @@
 use Rattle.tail.proofs.Tails.{tail-by}
 use mathlib.Core.Path.{refl, sym, _∙_}
 use borrow.Author.Needs.{needs}
+use Rattle.texts.specs.Texts.{texts}
 use Rattle.tail.proofs.tail_after.Statement.{statement}
 use Rattle.tail.proofs.tail_after.Tie as tie
 
@@ -21,13 +22,13 @@ same-length : tie.Need-same-length
 same-length c = search needs
 
 returns : tie.Need-returns
-returns c = let a = c .before .before .before .before .before .before .before .before .before .before .before .before .before .before .args in ((λ at. tail-by (a .note .now) (a .definitions .now) (a .count) (a .text .now) (a .rest .now) at _ (sym (c .before .before .before .before .before .before .before .inline-tail .ensures .0) ∙ c .before .before .before .q .given .1)), ((λ at. refl), c .before .before .before .before .before .before .before .inline-tail .ensures .1))
+returns c = let a = c .before .before .before .before .before .before .before .before .before .before .before .before .before .before .before .args in ((λ at. tail-by (texts (a .note .now) (a .sheet .now)) (a .definitions .now) (a .count) (a .text .now) (a .rest .now) at _ (sym (c .before .before .before .before .before .before .before .inline-tail .ensures .0) ∙ c .before .before .before .q .given .1)), ((λ at. refl), c .before .before .before .before .before .before .before .inline-tail .ensures .1))
 
 same-length-2 : tie.Need-same-length-2
 same-length-2 c = search needs
 
 returns-2 : tie.Need-returns-2
-returns-2 c = let a = c .before .before .before .before .before .before .before .before .before .before .before .before .args in ((λ at. c .reference .ensures .0 at ∙ tail-by (a .note .now) (a .definitions .now) (a .count) (a .text .now) (a .rest .now) at _ (sym (c .before .before .before .before .before .inline-tail .ensures .0) ∙ c .before .enum-told .given .1)), (c .reference .ensures .1, c .before .before .before .before .before .inline-tail .ensures .1))
+returns-2 c = let a = c .before .before .before .before .before .before .before .before .before .before .before .before .before .args in ((λ at. c .reference .ensures .0 at ∙ tail-by (texts (a .note .now) (a .sheet .now)) (a .definitions .now) (a .count) (a .text .now) (a .rest .now) at _ (sym (c .before .before .before .before .before .inline-tail .ensures .0) ∙ c .before .enum-told .given .1)), (c .reference .ensures .1, c .before .before .before .before .before .inline-tail .ensures .1))
 
 pub tail-after-spec : {M : Type 1} → statement M
 tail-after-spec =

@@ -2,17 +2,18 @@
 use Prim.Native.Nat.{_-_}
 use lib.ListN.{length}
 use borrow.Author.Needs.{needs}
+use Rattle.texts.specs.Texts.{texts}
 use Rattle.writer.proofs.Pages.{Pages, pages, all-written, less, starts, further}
 use Rattle.writer.proofs.write_page.Statement.{statement}
 use Rattle.writer.proofs.write_page.Tie as tie
 
-ruleset turns = (pages, all-written, less, starts, further, needs)
+ruleset turns = (pages, all-written, starts, further, needs)
 
 abbrev Inv-loop : tie.InvT-loop
-Inv-loop note spans count page₀ next₀ p₀ page next p = Pages note page₀ page next p
+Inv-loop note sheet definitions spans count page₀ next₀ p₀ page next p = Pages (texts note sheet) page₀ page next p
 
 abbrev μ-loop : tie.MeasureT-loop
-μ-loop note spans count page₀ next₀ p₀ page next p = length note - next
+μ-loop note sheet definitions spans count page₀ next₀ p₀ page next p = length note - next
 
 loop-holds : tie.Need-loop-holds Inv-loop μ-loop
 loop-holds c = search turns
@@ -36,7 +37,7 @@ write-paragraph-requires : tie.Need-write-paragraph-requires Inv-loop μ-loop
 write-paragraph-requires c κs = search turns
 
 loop-less : tie.Need-loop-less Inv-loop μ-loop
-loop-less c = search turns
+loop-less c = less (c .before .before .before .before .before .before .before .before .loop .inv) (c .before .before .before .before .before .before .before .next-paragraph .ensures) (c .before .before .before .before .before .start .given .1)
 
 loop-again : tie.Need-loop-again Inv-loop μ-loop
 loop-again c = search turns

@@ -1,31 +1,32 @@
 -- Each turn writes the bytes that stand for themselves, and then an escape or a byte of the run.
-use Prim.Native.Nat.{ℕ, _+_, _-_, _≤_, _<_}
+use Prim.Native.Nat.{ℕ, _-_, _≤_, _<_}
 use native.Mathlib.Omega.{arith}
-use mathlib.Core.Path.{_≡_, sym}
-use lib.ListN.{length, take, drop}
+use mathlib.Core.Path.{sym}
+use lib.ListN.{length, take}
 use lib.Seq.{length-take-le}
 use borrow.Author.Needs.{needs}
+use Rattle.texts.specs.Texts.{texts}
 use Rattle.writer.proofs.Steps.{moved}
-use Rattle.writer.proofs.Texts.{Runs, runs, run-ends, run-to, run-room, run-runs, unit-inside, unit-room, unit-runs}
+use Rattle.writer.proofs.Texts.{Runs, RunsText, runs, run-ends, run-to, run-room, run-runs, unit-inside, unit-room, unit-runs}
 use Rattle.writer.proofs.write_text.Statement.{statement}
 use Rattle.writer.proofs.write_text.Tie as tie
 
 abbrev Inv-loop : tie.InvT-loop
-Inv-loop note end stop page₀ text plain p page w = Runs note end p page₀ page w
+Inv-loop note end stop page₀ text plain p page w = RunsText note end stop p page₀ page w
 
 abbrev μ-loop : tie.MeasureT-loop
 μ-loop note end stop page₀ text plain p page w = stop - w .at
 
 slice-aggregate-text : tie.Need-slice-aggregate-text Inv-loop μ-loop
-slice-aggregate-text c = let t = c .before .before .before in sym (length-take-le (t .args .end) (t .args .note .now) (t .pre .0 .within))
+slice-aggregate-text c = let t = c .before .before .before in sym (length-take-le (t .args .end) (t .args .note .now) (t .pre .plain .within))
 
 slice-aggregate-plain : tie.Need-slice-aggregate-plain Inv-loop μ-loop
 slice-aggregate-plain c =
     let t = c .before .before .before .before in
-    sym (length-take-le (t .args .stop) (t .args .note .now) (omega (arith, t .pre .0 .inside, t .pre .0 .within)))
+    sym (length-take-le (t .args .stop) (t .args .note .now) (omega (arith, t .pre .plain .inside, t .pre .plain .within)))
 
 loop-holds : tie.Need-loop-holds Inv-loop μ-loop
-loop-holds c = runs (c .before .before .before .before .pre .0)
+loop-holds c = λ sheet q. runs q
 
 as-is-end-requires : tie.Need-as-is-end-requires Inv-loop μ-loop
 as-is-end-requires c κs = search needs
@@ -36,7 +37,8 @@ ends : (c : tie.After-put-arg Inv-loop μ-loop)
     × (c .before .as-is-end .result ≤ length (take (c .before .before .before .before .before .before .before .before .before .args .stop) (c .before .before .before .before .before .before .before .before .before .args .note .now)))
 ends c =
     let l = c .before .before .before .before in
-    run-to (l .before .before .before .before .before .pre .0) (l .loop .inv) (c .before .before .if1 .taken) (c .before .as-is-end .ensures)
+    let a = l .before .before .before .before .before .pre in
+    run-to (a .plain) (l .loop .inv (a .sheet) (a .plain)) (c .before .before .if1 .taken) (c .before .as-is-end .ensures)
 
 sub-put : tie.Need-sub-put Inv-loop μ-loop
 sub-put c = ends c .0
@@ -50,8 +52,8 @@ part-put-end c = ends c .1
 put-requires : tie.Need-put-requires Inv-loop μ-loop
 put-requires c κs =
     let l = c .before .before .before .before .before in
-    let t = l .before .before .before .before .before in
-    run-room (t .pre .0) (l .loop .inv) (c .before .before .before .if1 .taken) (c .before .before .as-is-end .ensures) (t .pre .1)
+    let a = l .before .before .before .before .before .pre in
+    run-room (a .plain) (l .loop .inv (a .sheet) (a .plain)) (c .before .before .before .if1 .taken) (c .before .before .as-is-end .ensures) (a .room)
 
 -- they are written
 abbrev Start : tie.After-slice-known2 Inv-loop μ-loop → tie.Start Inv-loop μ-loop
@@ -61,19 +63,24 @@ abbrev To : tie.After-slice-known2 Inv-loop μ-loop → ℕ
 To c = c .before .before .before .before .before .as-is-end .result
 
 ran : (c : tie.After-slice-known2 Inv-loop μ-loop)
-    → Runs (Start c .args .note .now) (Start c .args .end) (Start c .args .p) (Start c .args .page .now) (c .before .before .put .last .0) (moved (c .before .before .before .before .before .before .before .before .loop .w) (To c) (c .before .before .put .result))
-ran c = run-runs (Start c .pre .0) (c .before .before .before .before .before .before .before .before .loop .inv) (c .before .before .before .before .before .before .if1 .taken) (c .before .before .before .before .before .as-is-end .ensures) (c .before .before .put .ensures)
+    → RunsText (Start c .args .note .now) (Start c .args .end) (Start c .args .stop) (Start c .args .p) (Start c .args .page .now) (c .before .before .put .last .0) (moved (c .before .before .before .before .before .before .before .before .loop .w) (To c) (c .before .before .put .result))
+ran c = λ sheet q. run-runs q (c .before .before .before .before .before .before .before .before .loop .inv sheet q) (c .before .before .before .before .before .before .if1 .taken) (c .before .before .before .before .before .as-is-end .ensures) (c .before .before .put .ensures)
+
+-- with the sheet that is known to give text there
+ran-here : (c : tie.After-slice-known2 Inv-loop μ-loop)
+    → Runs (texts (Start c .args .note .now) (Start c .pre .sheet)) (Start c .args .end) (Start c .args .p) (Start c .args .page .now) (c .before .before .put .last .0) (moved (c .before .before .before .before .before .before .before .before .loop .w) (To c) (c .before .before .put .result))
+ran-here c = ran c (Start c .pre .sheet) (Start c .pre .plain)
 
 to-stop : (c : tie.After-slice-known2 Inv-loop μ-loop) → To c ≤ Start c .args .stop
 to-stop c =
-    let q = Start c .pre .0 in
+    let q = Start c .pre .plain in
     omega (arith, ends (c .before .before .before .before) .1, length-take-le (Start c .args .stop) (Start c .args .note .now) (omega (arith, q .inside, q .within)))
 
 same-length : tie.Need-same-length Inv-loop μ-loop
-same-length c = ran (c .before) .written .same
+same-length c = ran-here (c .before) .written .same
 
 returns : tie.Need-returns Inv-loop μ-loop
-returns c = run-ends (Start (c .before) .pre .0) (ran (c .before)) (omega (arith, c .if2 .taken))
+returns c = λ sheet q. run-ends q (ran (c .before) sheet q) (omega (arith, c .if2 .taken))
 
 unfinished : (c : tie.Else2 Inv-loop μ-loop) → To (c .before) < Start (c .before) .args .stop
 unfinished c = omega (arith, to-stop (c .before), c .if2 .left)
@@ -81,13 +88,13 @@ unfinished c = omega (arith, to-stop (c .before), c .if2 .left)
 past-backslash-requires : tie.Need-past-backslash-requires Inv-loop μ-loop
 past-backslash-requires c κs =
     let t = Start (c .before) in
-    omega (arith, unfinished c, t .pre .0 .inside, length-take-le (t .args .end) (t .args .note .now) (t .pre .0 .within))
+    omega (arith, unfinished c, t .pre .plain .inside, length-take-le (t .args .end) (t .args .note .now) (t .pre .plain .within))
 
 -- the byte of the unit after them
 byte-inside : (c : tie.After-past-backslash Inv-loop μ-loop)
     → (To (c .before .before) ≤ c .past-backslash .result)
     × (c .past-backslash .result < length (take (Start (c .before .before) .args .end) (Start (c .before .before) .args .note .now)))
-byte-inside c = unit-inside (Start (c .before .before) .pre .0) (ran (c .before .before)) (unfinished (c .before)) (c .past-backslash .ensures)
+byte-inside c = unit-inside (Start (c .before .before) .pre .plain) (ran-here (c .before .before)) (unfinished (c .before)) (c .past-backslash .ensures)
 
 shared-slice-read-put-escaped : tie.Need-shared-slice-read-put-escaped Inv-loop μ-loop
 shared-slice-read-put-escaped c = byte-inside (c .before .before) .1
@@ -96,13 +103,13 @@ put-escaped-requires : tie.Need-put-escaped-requires Inv-loop μ-loop
 put-escaped-requires c κs =
     let j = c .before .before in
     let t = Start (j .before .before) in
-    unit-room (t .pre .0) (ran (j .before .before)) (unfinished (j .before)) (j .past-backslash .ensures) (t .pre .1)
+    unit-room (t .pre .plain) (ran-here (j .before .before)) (unfinished (j .before)) (j .past-backslash .ensures) (t .pre .room)
 
 add-w : tie.Need-add-w Inv-loop μ-loop
 add-w c =
     let j = c .before .before .before .before .before in
     let t = Start (j .before .before) in
-    omega (arith, byte-inside j .1, length-take-le (t .args .end) (t .args .note .now) (t .pre .0 .within))
+    omega (arith, byte-inside j .1, length-take-le (t .args .end) (t .args .note .now) (t .pre .plain .within))
 
 loop-less : tie.Need-loop-less Inv-loop μ-loop
 loop-less c =
@@ -112,13 +119,16 @@ loop-less c =
 loop-again : tie.Need-loop-again Inv-loop μ-loop
 loop-again c =
     let j = c .before .before .before .before .before in
-    unit-runs (Start (j .before .before) .pre .0) (ran (j .before .before)) (unfinished (j .before)) (j .past-backslash .ensures) (c .before .before .put-escaped .ensures)
+    λ sheet q. unit-runs q (ran (j .before .before) sheet q) (unfinished (j .before)) (j .past-backslash .ensures) (c .before .before .put-escaped .ensures)
 
 same-length-2 : tie.Need-same-length-2 Inv-loop μ-loop
-same-length-2 c = c .before .before .loop .inv .written .same
+same-length-2 c =
+    let l = c .before .before in
+    let a = l .before .before .before .before .before .pre in
+    l .loop .inv (a .sheet) (a .plain) .written .same
 
 returns-2 : tie.Need-returns-2 Inv-loop μ-loop
-returns-2 c = run-ends (c .before .before .before .before .before .before .before .pre .0) (c .before .before .loop .inv) (c .if1 .left)
+returns-2 c = λ sheet q. run-ends q (c .before .before .loop .inv sheet q) (c .if1 .left)
 
 pub write-text-spec : {M : Type 1} → statement M
 write-text-spec =

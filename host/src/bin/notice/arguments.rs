@@ -3,6 +3,8 @@
 use std::ffi::{OsStr, OsString};
 
 use crate::fault::Fault;
+use crate::files::STANDARD_INPUT;
+use crate::texts::Files;
 use crate::visible::visible;
 
 /// One thing to do.
@@ -10,10 +12,10 @@ use crate::visible::visible;
 pub enum Command {
     Help,
     Version,
-    Page { standalone: bool, file: OsString },
-    Links { json: bool, file: OsString },
-    Where { label: OsString, file: OsString },
-    Check { file: OsString },
+    Page { standalone: bool, files: Files },
+    Links { json: bool, files: Files },
+    Where { label: OsString, files: Files },
+    Check { files: Files },
 }
 
 /// The words of a command line, sorted.
@@ -22,6 +24,8 @@ enum Words {
     Answered(Command),
     Sorted {
         options: Vec<OsString>,
+        /// What stands after each `--sheet`, if it can be a file's name.
+        sheets: Vec<Option<OsString>>,
         names: Vec<OsString>,
     },
 }
@@ -30,16 +34,21 @@ enum Words {
 pub fn parse(words: impl Iterator<Item = OsString>) -> Result<Command, Fault> {
     match sort(words) {
         Words::Answered(command) => Ok(command),
-        Words::Sorted { options, names } => command(&options, names),
+        Words::Sorted {
+            options,
+            sheets,
+            names,
+        } => command(&options, one_sheet(sheets)?, names),
     }
 }
 
-/// Tells options from names: after `--` every word is a name, and `-` always is.
+/// Tells options from names: after `--` every word is a name.
 fn sort(words: impl Iterator<Item = OsString>) -> Words {
-    let (mut options, mut names) = (Vec::new(), Vec::new());
+    let (mut options, mut sheets, mut names) = (Vec::new(), Vec::new(), Vec::new());
     let mut only_names = false;
-    for word in words {
-        if only_names || word == "-" || !word.as_encoded_bytes().starts_with(b"-") {
+    let mut words = words.peekable();
+    while let Some(word) = words.next() {
+        if only_names || is_name(&word) {
             names.push(word);
         } else if word == "--" {
             only_names = true;
@@ -47,15 +56,40 @@ fn sort(words: impl Iterator<Item = OsString>) -> Words {
             return Words::Answered(Command::Help);
         } else if word == "--version" || word == "-V" {
             return Words::Answered(Command::Version);
+        } else if word == "--sheet" {
+            sheets.push(words.next_if(|word| is_name(word)));
         } else {
             options.push(word);
         }
     }
-    Words::Sorted { options, names }
+    Words::Sorted {
+        options,
+        sheets,
+        names,
+    }
+}
+
+/// Whether a word before `--` is a name; `-` always is.
+fn is_name(word: &OsStr) -> bool {
+    word == STANDARD_INPUT || !word.as_encoded_bytes().starts_with(b"-")
+}
+
+/// The sheet's file, if one is given.
+fn one_sheet(mut sheets: Vec<Option<OsString>>) -> Result<Option<OsString>, Fault> {
+    match (sheets.len(), sheets.pop().flatten()) {
+        (0, _) => Ok(None),
+        (1, Some(file)) => Ok(Some(file)),
+        (1, None) => usage("--sheet needs a FILE after it".to_string()),
+        _ => usage("only one --sheet may be given".to_string()),
+    }
 }
 
 /// The command that the first name is.
-fn command(options: &[OsString], names: Vec<OsString>) -> Result<Command, Fault> {
+fn command(
+    options: &[OsString],
+    sheet: Option<OsString>,
+    names: Vec<OsString>,
+) -> Result<Command, Fault> {
     let mut names = names.into_iter();
     let Some(name) = names.next() else {
         return match options.first() {
@@ -67,21 +101,22 @@ fn command(options: &[OsString], names: Vec<OsString>) -> Result<Command, Fault>
     match name.to_str() {
         Some("page") => Ok(Command::Page {
             standalone: flag(options, Some("--standalone"))?,
-            file: one_file(names)?,
+            files: one_file(names, sheet)?,
         }),
         Some("links") => Ok(Command::Links {
             json: flag(options, Some("--json"))?,
-            file: one_file(names)?,
+            files: one_file(names, sheet)?,
         }),
         Some("where") => {
             flag(options, None)?;
             let [label, file] = exactly(names, "where needs a LABEL and one FILE")?;
-            Ok(Command::Where { label, file })
+            let files = both(file, sheet)?;
+            Ok(Command::Where { label, files })
         }
         Some("check") => {
             flag(options, None)?;
-            let file = one_file(names)?;
-            Ok(Command::Check { file })
+            let files = one_file(names, sheet)?;
+            Ok(Command::Check { files })
         }
         _ => usage(format!("unknown command {}", quoted(&name))),
     }
@@ -98,9 +133,18 @@ fn flag(options: &[OsString], known: Option<&str>) -> Result<bool, Fault> {
     }
 }
 
-fn one_file(names: Vec<OsString>) -> Result<OsString, Fault> {
-    let [file] = exactly(names, "exactly one FILE is needed (- is standard input)")?;
-    Ok(file)
+/// The only name is the note's file.
+fn one_file(names: Vec<OsString>, sheet: Option<OsString>) -> Result<Files, Fault> {
+    let [note] = exactly(names, "exactly one FILE is needed (- is standard input)")?;
+    both(note, sheet)
+}
+
+/// The two files: standard input can be read once.
+fn both(note: OsString, sheet: Option<OsString>) -> Result<Files, Fault> {
+    if note == STANDARD_INPUT && sheet.as_deref() == Some(STANDARD_INPUT.as_ref()) {
+        return usage("standard input (-) can't be both the notice and the sheet".to_string());
+    }
+    Ok(Files { note, sheet })
 }
 
 /// The names, if there are as many as are asked for.
@@ -123,36 +167,68 @@ fn quoted(word: &OsStr) -> String {
 mod tests {
     use super::{parse, Command};
     use crate::fault::Fault;
+    use crate::texts::Files;
     use std::ffi::OsString;
 
     fn parsed(line: &str) -> Result<Command, Fault> {
         parse(line.split_whitespace().map(OsString::from))
     }
 
+    fn files(note: &str, sheet: Option<&str>) -> Files {
+        Files {
+            note: note.into(),
+            sheet: sheet.map(OsString::from),
+        }
+    }
+
     #[test]
     fn options_stand_anywhere_before_the_dashes() {
         let page = |standalone| Command::Page {
             standalone,
-            file: "a".into(),
+            files: files("a", None),
         };
         assert_eq!(parsed("page a").unwrap(), page(false));
         assert_eq!(parsed("page a --standalone").unwrap(), page(true));
         assert_eq!(parsed("--standalone page a").unwrap(), page(true));
         let named = Command::Check {
-            file: "--help".into(),
+            files: files("--help", None),
         };
         assert_eq!(parsed("check -- --help").unwrap(), named);
         assert_eq!(parsed("check a --help").unwrap(), Command::Help);
     }
 
     #[test]
-    fn a_lone_dash_is_a_name() {
-        let enquiry = Command::Where {
-            label: "-".into(),
-            file: "-".into(),
+    fn a_sheet_stands_before_or_after_the_note() {
+        let check = || Command::Check {
+            files: files("a", Some("b")),
         };
-        assert_eq!(parsed("where - -").unwrap(), enquiry);
-        assert_eq!(parsed("-- where - -").unwrap(), enquiry);
+        assert_eq!(parsed("check a --sheet b").unwrap(), check());
+        assert_eq!(parsed("check --sheet b a").unwrap(), check());
+        assert_eq!(parsed("--sheet b check -- a").unwrap(), check());
+        let enquiry = Command::Where {
+            label: "--sheet".into(),
+            files: files("a", Some("-")),
+        };
+        assert_eq!(
+            parsed("where --sheet - -- --sheet a").unwrap(),
+            enquiry,
+            "after the dashes it is a name"
+        );
+        assert_eq!(parsed("check --sheet --help").unwrap(), Command::Help);
+        assert_eq!(
+            parsed("check --sheet a --sheet b --help").unwrap(),
+            Command::Help
+        );
+    }
+
+    #[test]
+    fn a_lone_dash_is_a_name() {
+        let enquiry = || Command::Where {
+            label: "-".into(),
+            files: files("-", None),
+        };
+        assert_eq!(parsed("where - -").unwrap(), enquiry());
+        assert_eq!(parsed("-- where - -").unwrap(), enquiry());
     }
 
     #[test]
@@ -172,6 +248,13 @@ mod tests {
             "where -x a",
             "check -v a",
             "--json",
+            "check a --sheet",
+            "check --sheet -- a",
+            "links a --sheet --json",
+            "check --sheet a",
+            "check a --sheet b --sheet b",
+            "check --sheet - -",
+            "where a - --sheet -",
         ];
         for line in lines {
             assert!(matches!(parsed(line), Err(Fault::Usage(_))), "{line:?}");

@@ -8,13 +8,13 @@ use std::io::{Error, ErrorKind, Write};
 pub enum Fault {
     /// The command line is wrong.
     Usage(String),
-    /// The library refuses the note or the label; the line says where and why.
+    /// The library refuses the note, the sheet or the label; the line says where and why.
     Refused { number: u8, line: String },
     /// The library gave an answer that its promise excludes.
     Library(&'static str),
-    /// There is not enough memory for what the note needs.
+    /// There is not enough memory for what the note and the sheet need.
     Memory,
-    /// The file can't be read.
+    /// A file can't be read.
     File { name: String, error: Error },
     /// The output can't be written.
     Output(Error),

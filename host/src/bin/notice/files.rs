@@ -1,4 +1,4 @@
-//! Reading the note and writing the output.
+//! Reading a text and writing the output.
 
 use std::ffi::OsStr;
 use std::io::{Read, Write};
@@ -7,7 +7,7 @@ use crate::fault::Fault;
 use crate::visible::visible;
 
 /// The name that stands for standard input.
-const STANDARD_INPUT: &str = "-";
+pub const STANDARD_INPUT: &str = "-";
 
 /// All bytes of the file, or of standard input.
 pub fn read(file: &OsStr) -> Result<Vec<u8>, Fault> {

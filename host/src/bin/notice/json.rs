@@ -1,17 +1,21 @@
 //! The listing as JSON: an object with the arrays `definitions`, `links` and `code_spans`, an item a
-//! line. Every key is always there; what is absent is null.
+//! line. Every key is always there; what is absent is null. The keys of files are there where there
+//! are two files.
 
 use std::fmt::Write;
 use std::ops::Range;
 
-use crate::listing::{Code, Definition, Hidden, Link, Listing, Part};
+use crate::listing::{Code, Definition, Hidden, Link, Listing, Named, Part};
+use crate::texts::{Files, Which};
 
 /// The whole listing.
-pub fn text(listing: &Listing) -> String {
+pub fn text(listing: &Listing, files: &Files) -> String {
     let definitions = listing.definitions.iter().enumerate();
+    let definitions = definitions.map(|(index, one)| definition(index + 1, one, files));
+    let links = listing.links.iter().map(|one| link(one, files));
     let arrays = [
-        array("definitions", definitions.map(definition)),
-        array("links", listing.links.iter().map(link)),
+        array("definitions", definitions),
+        array("links", links),
         array("code_spans", listing.codes.iter().map(code)),
     ];
     format!("{{\n{}\n}}\n", arrays.join(",\n"))
@@ -22,50 +26,68 @@ fn array(name: &str, items: impl Iterator<Item = String>) -> String {
     format!("\"{name}\": [{}]", items.join(","))
 }
 
-fn definition((index, definition): (usize, &Definition)) -> String {
-    object(&[
-        ("number", (index + 1).to_string()),
+fn definition(number: usize, definition: &Definition, files: &Files) -> String {
+    let mut members = vec![("number", number.to_string())];
+    members.extend(file("file", Some(definition.which), files));
+    members.extend([
         ("line", definition.place.line.to_string()),
         ("column", definition.place.column.to_string()),
         ("label", part(&definition.label)),
         ("destination", part(&definition.destination)),
         ("title", optional(definition.title.as_ref(), part)),
-        ("hidden_by", optional(definition.hidden.as_ref(), hidden)),
-    ])
-}
-
-fn hidden(hidden: &Hidden) -> String {
-    object(&[
-        ("number", hidden.by.number.to_string()),
-        ("line", hidden.by.line.to_string()),
         (
-            "destination_differs",
-            hidden.destination_differs.to_string(),
+            "hidden_by",
+            optional(definition.hidden.as_ref(), |one| hidden(one, files)),
         ),
-        ("title_differs", hidden.title_differs.to_string()),
-    ])
+    ]);
+    object(&members)
 }
 
-fn link(link: &Link) -> String {
+fn hidden(hidden: &Hidden, files: &Files) -> String {
+    let Hidden {
+        by,
+        destination_differs,
+        title_differs,
+    } = hidden;
+    let mut members = vec![("number", by.number.to_string())];
+    members.extend(file("file", Some(by.which), files));
+    members.extend([
+        ("line", by.line.to_string()),
+        ("destination_differs", destination_differs.to_string()),
+        ("title_differs", title_differs.to_string()),
+    ]);
+    object(&members)
+}
+
+fn link(link: &Link, files: &Files) -> String {
     let definition = link.definition.as_ref();
-    object(&[
+    let number = |named: &Named| named.number.to_string();
+    let line = |named: &Named| named.line.to_string();
+    let which = definition.map(|named| named.which);
+    let mut members = vec![
         ("kind", string(link.kind.word())),
         ("line", link.place.line.to_string()),
         ("column", link.place.column.to_string()),
         ("start", link.whole.start.to_string()),
         ("end", link.whole.end.to_string()),
         ("text", part(&link.text)),
-        (
-            "definition",
-            optional(definition, |named| named.number.to_string()),
-        ),
-        (
-            "definition_line",
-            optional(definition, |named| named.line.to_string()),
-        ),
+        ("definition", optional(definition, number)),
+    ];
+    members.extend(file("definition_file", which, files));
+    members.extend([
+        ("definition_line", optional(definition, line)),
         ("destination", optional(link.destination.as_ref(), part)),
         ("title", optional(link.title.as_ref(), part)),
-    ])
+    ]);
+    object(&members)
+}
+
+/// The member that names a text's file, or null for no text; none where there is one file.
+fn file<'k>(key: &'k str, which: Option<Which>, files: &Files) -> Option<(&'k str, String)> {
+    files.sheet.as_ref()?;
+    let name = which.and_then(|which| files.name(which));
+    let name = optional(name, |name| string(&name.to_string_lossy()));
+    Some((key, name))
 }
 
 fn code(code: &Code) -> String {

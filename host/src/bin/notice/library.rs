@@ -1,4 +1,4 @@
-//! The entries of the proved library, lent as much memory as the note needs.
+//! The entries of the proved library, lent as much memory as the note and the sheet need.
 //!
 //! Refusals 3, 5 and 6 return what is needed, so the first question lends nothing and each later
 //! one what the answer before it asked for.
@@ -9,6 +9,7 @@ use host::entries;
 
 use crate::fault::Fault;
 use crate::rows::{DEFINITION_WIDTH, SPAN_WIDTH};
+use crate::texts::{Texts, Which};
 
 const SUCCESS: u32 = 0;
 const FEW_DEFINITION_ROWS: u32 = 3;
@@ -20,6 +21,8 @@ const PAGE_TOO_SHORT: u32 = 6;
 pub struct Refusal {
     pub number: u32,
     pub value: u64,
+    /// The number of the text that it is about.
+    pub text: u64,
 }
 
 /// Why there is no answer.
@@ -47,50 +50,57 @@ impl Tables {
     }
 }
 
-/// The note's definition rows and span rows.
-pub fn read(note: &[u8]) -> Result<Tables, Failure> {
+/// The definition rows of both texts and the note's span rows.
+pub fn read(texts: &Texts) -> Result<Tables, Failure> {
     let mut tables = Tables::default();
     loop {
-        let answer = entries::read(note, &mut tables.definitions, &mut tables.spans);
+        let Tables { definitions, spans } = &mut tables;
+        let answer = entries::read(&texts.note, &texts.sheet, definitions, spans);
         if answer.number == SUCCESS {
             return Ok(tables);
         }
         tables.make_room(Refusal {
             number: answer.number,
             value: answer.value,
+            text: answer.text,
         })?;
     }
 }
 
 /// The note's page.
-pub fn page(note: &[u8]) -> Result<Vec<u8>, Failure> {
+pub fn page(texts: &Texts) -> Result<Vec<u8>, Failure> {
     let mut tables = Tables::default();
     let mut page = Vec::new();
     loop {
-        let answer = entries::render(note, &mut tables.definitions, &mut tables.spans, &mut page);
+        let Tables { definitions, spans } = &mut tables;
+        let answer = entries::render(&texts.note, &texts.sheet, definitions, spans, &mut page);
         match answer.number {
             SUCCESS => return Ok(page),
             PAGE_TOO_SHORT => grow(&mut page, answer.value, 1)?,
             number => tables.make_room(Refusal {
                 number,
                 value: answer.value,
+                text: answer.text,
             })?,
         }
     }
 }
 
-/// Where the destination stands that the note gives to a label.
-pub fn resolve(note: &[u8], label: &[u8]) -> Result<Range<usize>, Failure> {
-    let answer = entries::resolve(note, label);
+/// In which text, and where in it, the destination stands that a label opens.
+pub fn resolve(texts: &Texts, label: &[u8]) -> Result<(Which, Range<usize>), Failure> {
+    let answer = entries::resolve(&texts.note, &texts.sheet, label);
     if answer.number != SUCCESS {
         return Err(Failure::Refused(Refusal {
             number: answer.number,
             value: answer.value,
+            text: answer.text,
         }));
     }
+    let which = Which::of(answer.text).ok_or_else(|| fault("a destination in no text"))?;
+    let length = texts.bytes(which).len();
     match (usize::try_from(answer.start), usize::try_from(answer.end)) {
-        (Ok(start), Ok(end)) if start <= end && end <= note.len() => Ok(start..end),
-        _ => Err(fault("a destination outside the note")),
+        (Ok(start), Ok(end)) if start <= end && end <= length => Ok((which, start..end)),
+        _ => Err(fault("a destination outside its text")),
     }
 }
 
@@ -130,28 +140,46 @@ mod tests {
     use super::{grow, page, read, resolve, same_label, Failure};
     use crate::fault::Fault;
     use crate::rows::{DEFINITION_WIDTH, SPAN_WIDTH};
+    use crate::texts::{Texts, Which};
 
-    const NOTE: &[u8] = b"[max]: /q2/max \"June\"\n\nUse [max].\n";
+    const NOTE: &str = "[max]: /q2/max \"June\"\n\nUse [max].\n";
+    const SHEET: &str = "[MAX]: /s/max\n[min]: /s/min\n";
 
     #[test]
     fn buffers_are_exactly_as_long_as_needed() {
-        let tables = read(NOTE).expect("a good note");
-        assert_eq!(tables.definitions, [1, 4, 7, 14, 16, 20, 1]);
+        let alone = Texts::of(NOTE, None);
+        let tables = read(&alone).expect("a good note");
+        assert_eq!(tables.definitions, [0, 1, 4, 7, 14, 16, 20, 1]);
         assert_eq!(tables.spans, [5, 27, 32, 28, 31, 1, 7, 14, 16, 20, 3]);
-        let html = page(NOTE).expect("a good note");
+        let html = page(&alone).expect("a good note");
         assert_eq!(
             String::from_utf8_lossy(&html),
             "<p>Use <a href=\"/q2/max\" title=\"June\">max</a>.</p>\n"
         );
-        let tables = read(b"").expect("an empty note");
+        let tables = read(&Texts::of("", None)).expect("an empty note");
         assert!(tables.definitions.is_empty() && tables.spans.is_empty());
     }
 
     #[test]
-    fn the_enquiry_hands_back_a_part_of_the_note() {
-        assert_eq!(resolve(NOTE, b" MAX ").ok(), Some(7..14));
+    fn rows_of_both_texts_are_asked_for() {
+        let tables = read(&Texts::of(NOTE, Some(SHEET))).expect("a good note and sheet");
+        let rows = [
+            [0, 1, 4, 7, 14, 16, 20, 1],
+            [1, 1, 4, 7, 13, 0, 0, 1],
+            [1, 15, 18, 21, 27, 0, 0, 2],
+        ];
+        assert_eq!(tables.definitions, rows.concat());
+        assert_eq!(tables.spans, [5, 27, 32, 28, 31, 1, 7, 14, 16, 20, 3]);
+    }
+
+    #[test]
+    fn the_enquiry_hands_back_a_part_of_one_text() {
+        let both = Texts::of(NOTE, Some(SHEET));
+        let found = |label| resolve(&both, label).ok();
+        assert_eq!(found(b" MAX "), Some((Which::Note, 7..14)));
+        assert_eq!(found(b"Min"), Some((Which::Sheet, 21..27)));
         assert!(matches!(
-            resolve(NOTE, b"min"),
+            resolve(&both, b"mean"),
             Err(Failure::Refused(refusal)) if refusal.number == 7
         ));
     }

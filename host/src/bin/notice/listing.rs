@@ -6,8 +6,9 @@ use std::ops::Range;
 use crate::library::{self, Failure};
 use crate::places::Place;
 use crate::rows::{self, DefinitionRow, Kind, SpanRow};
+use crate::texts::{Texts, Which};
 
-/// A part of the note and its text.
+/// A part of the note or the sheet, and its text.
 pub struct Part<'n> {
     pub range: Range<usize>,
     pub text: Cow<'n, str>,
@@ -15,6 +16,8 @@ pub struct Part<'n> {
 
 /// A link reference definition.
 pub struct Definition<'n> {
+    /// The text where it stands.
+    pub which: Which,
     /// The place of its label's opening bracket.
     pub place: Place,
     pub label: Part<'n>,
@@ -35,8 +38,9 @@ pub struct Hidden {
 /// A definition as others name it.
 #[derive(Clone, Copy, Debug, PartialEq, Eq)]
 pub struct Named {
-    /// From 1, in note order.
+    /// From 1, the note's first and then the sheet's.
     pub number: usize,
+    pub which: Which,
     pub line: usize,
 }
 
@@ -58,22 +62,22 @@ pub struct Code<'n> {
     pub text: Part<'n>,
 }
 
-/// Everything listed, each part in note order.
+/// Everything listed, in order: the note's definitions, then the sheet's; the note's links and code
+/// spans.
 pub struct Listing<'n> {
     pub definitions: Vec<Definition<'n>>,
     pub links: Vec<Link<'n>>,
     pub codes: Vec<Code<'n>>,
 }
 
-/// Lists a note.
-pub fn of(note: &[u8]) -> Result<Listing<'_>, Failure> {
-    let tables = library::read(note)?;
+/// Lists a note and the sheet beside it.
+pub fn of(texts: &Texts) -> Result<Listing<'_>, Failure> {
+    let tables = library::read(texts)?;
     let spans =
         rows::spans(&tables.spans).ok_or_else(|| library::fault("a span row of no kind"))?;
-    let lister = Lister {
-        note,
-        rows: rows::definitions(&tables.definitions),
-    };
+    let rows = rows::definitions(&tables.definitions)
+        .ok_or_else(|| library::fault("a definition row of no text"))?;
+    let lister = Lister { texts, rows };
     let (codes, links): (Vec<SpanRow>, Vec<SpanRow>) =
         spans.into_iter().partition(|row| row.kind == Kind::Code);
     Ok(Listing {
@@ -87,27 +91,21 @@ pub fn of(note: &[u8]) -> Result<Listing<'_>, Failure> {
 }
 
 struct Lister<'n> {
-    note: &'n [u8],
+    texts: &'n Texts,
     rows: Vec<DefinitionRow>,
 }
 
 impl<'n> Lister<'n> {
-    fn part(&self, range: Range<usize>) -> Part<'n> {
-        let note: &'n [u8] = self.note;
+    fn part(&self, which: Which, range: Range<usize>) -> Part<'n> {
+        let texts: &'n Texts = self.texts;
         Part {
-            text: String::from_utf8_lossy(&note[range.clone()]),
+            text: String::from_utf8_lossy(&texts.bytes(which)[range.clone()]),
             range,
         }
     }
 
-    fn optional(&self, range: Option<Range<usize>>) -> Option<Part<'n>> {
-        range.map(|range| self.part(range))
-    }
-
-    /// The bytes of two parts differ, or one of the two is absent.
-    fn differ(&self, one: Option<&Range<usize>>, other: Option<&Range<usize>>) -> bool {
-        let bytes = |range: &Range<usize>| &self.note[range.clone()];
-        one.map(bytes) != other.map(bytes)
+    fn optional(&self, which: Which, range: Option<Range<usize>>) -> Option<Part<'n>> {
+        range.map(|range| self.part(which, range))
     }
 
     fn definitions(&self) -> Result<Vec<Definition<'n>>, Failure> {
@@ -118,9 +116,9 @@ impl<'n> Lister<'n> {
 
     /// The first definition whose label equals that of a later one.
     fn hidden_by(&self, later: usize) -> Result<Option<usize>, Failure> {
-        let label = |index: usize| &self.note[self.rows[index].label.clone()];
+        let label = |row: &DefinitionRow| &self.texts.bytes(row.which)[row.label.clone()];
         for first in 0..later {
-            if library::same_label(label(first), label(later))? {
+            if library::same_label(label(&self.rows[first]), label(&self.rows[later]))? {
                 return Ok(Some(first));
             }
         }
@@ -128,27 +126,34 @@ impl<'n> Lister<'n> {
     }
 
     fn definition(&self, row: &DefinitionRow, hidden_by: Option<usize>) -> Definition<'n> {
+        let which = row.which;
         Definition {
-            place: Place::on_line(row.line, self.note, row.label.start - 1),
-            label: self.part(row.label.clone()),
-            destination: self.part(row.destination.clone()),
-            title: self.optional(row.title.clone()),
+            which,
+            place: Place::on_line(row.line, self.texts.bytes(which), row.label.start - 1),
+            label: self.part(which, row.label.clone()),
+            destination: self.part(which, row.destination.clone()),
+            title: self.optional(which, row.title.clone()),
             hidden: hidden_by.map(|first| self.hidden(row, first)),
         }
     }
 
     fn hidden(&self, row: &DefinitionRow, first: usize) -> Hidden {
         let other = &self.rows[first];
+        let bytes =
+            |row: &DefinitionRow, range: &Range<usize>| &self.texts.bytes(row.which)[range.clone()];
+        let destination = |row: &DefinitionRow| bytes(row, &row.destination);
+        let title = |row: &DefinitionRow| row.title.as_ref().map(|range| bytes(row, range));
         Hidden {
             by: self.named(first),
-            destination_differs: self.differ(Some(&row.destination), Some(&other.destination)),
-            title_differs: self.differ(row.title.as_ref(), other.title.as_ref()),
+            destination_differs: destination(row) != destination(other),
+            title_differs: title(row) != title(other),
         }
     }
 
     fn named(&self, index: usize) -> Named {
         Named {
             number: index + 1,
+            which: self.rows[index].which,
             line: self.rows[index].line,
         }
     }
@@ -160,32 +165,41 @@ impl<'n> Lister<'n> {
         {
             return Err(library::fault("a reference to no definition"));
         }
+        let definition = row.definition.map(|number| self.named(number - 1));
+        let target = definition.map_or(Which::Note, |named| named.which);
         Ok(Link {
             kind: row.kind,
-            place: Place::on_line(row.line, self.note, row.whole.start),
+            place: self.place(&row),
             whole: row.whole,
-            text: self.part(row.text),
-            definition: row.definition.map(|number| self.named(number - 1)),
-            destination: self.optional(row.destination),
-            title: self.optional(row.title),
+            text: self.part(Which::Note, row.text),
+            definition,
+            destination: self.optional(target, row.destination),
+            title: self.optional(target, row.title),
         })
     }
 
     fn code(&self, row: SpanRow) -> Code<'n> {
         Code {
-            place: Place::on_line(row.line, self.note, row.whole.start),
+            place: self.place(&row),
             whole: row.whole,
-            text: self.part(row.text),
+            text: self.part(Which::Note, row.text),
         }
+    }
+
+    /// Where a span starts.
+    fn place(&self, row: &SpanRow) -> Place {
+        Place::on_line(row.line, &self.texts.note, row.whole.start)
     }
 }
 
 #[cfg(test)]
 mod tests {
     use super::{of, Hidden, Named};
+    use crate::texts::{Texts, Which};
 
-    fn hidden(note: &str) -> Vec<Option<Hidden>> {
-        let listing = of(note.as_bytes()).expect("a good note");
+    fn hidden(note: &str, sheet: Option<&str>) -> Vec<Option<Hidden>> {
+        let texts = Texts::of(note, sheet);
+        let listing = of(&texts).expect("a good note");
         listing
             .definitions
             .iter()
@@ -193,9 +207,14 @@ mod tests {
             .collect()
     }
 
-    fn by(number: usize, line: usize, destination: bool, title: bool) -> Option<Hidden> {
+    fn by(named: (usize, Which, usize), destination: bool, title: bool) -> Option<Hidden> {
+        let (number, which, line) = named;
         Some(Hidden {
-            by: Named { number, line },
+            by: Named {
+                number,
+                which,
+                line,
+            },
             destination_differs: destination,
             title_differs: title,
         })
@@ -204,26 +223,42 @@ mod tests {
     #[test]
     fn the_first_definition_of_a_label_hides_the_others() {
         let note = "[a]: x\n[B b]: y 't'\n[A]: x\n[ b\tB ]: y (t)\n[a]: z 't'\n[b b]: y\n";
+        let (first, second) = ((1, Which::Note, 1), (2, Which::Note, 2));
         let wanted = [
             None,
             None,
-            by(1, 1, false, false),
-            by(2, 2, false, false),
-            by(1, 1, true, true),
-            by(2, 2, false, true),
+            by(first, false, false),
+            by(second, false, false),
+            by(first, true, true),
+            by(second, false, true),
         ];
-        assert_eq!(hidden(note), wanted);
+        assert_eq!(hidden(note, None), wanted);
+        assert_eq!(
+            hidden(note, Some("[c]: x")),
+            [&wanted[..], &[None]].concat()
+        );
+    }
+
+    #[test]
+    fn the_note_hides_the_sheet_and_the_sheet_itself() {
+        let sheet = "\n[A]: x 't'\n[b]: y\n[B]: z\n";
+        let (first, second) = ((1, Which::Note, 2), (3, Which::Sheet, 3));
+        let wanted = [None, by(first, false, true), None, by(second, true, false)];
+        assert_eq!(hidden("\n[a]: x\n", Some(sheet)), wanted);
+        let wanted = [None, None, by((2, Which::Sheet, 3), true, false)];
+        assert_eq!(hidden("", Some(sheet)), wanted);
     }
 
     #[test]
     fn empty_destinations_have_their_own_places() {
         let note = "[a]: <>\n[b]: <>\n[a]: <>\n[b]: <> \"\"\n";
-        let wanted = [None, None, by(1, 1, false, false), by(2, 2, false, true)];
-        assert_eq!(hidden(note), wanted);
+        let (first, second) = ((1, Which::Note, 1), (2, Which::Note, 2));
+        let wanted = [None, None, by(first, false, false), by(second, false, true)];
+        assert_eq!(hidden(note, None), wanted);
     }
 
     #[test]
     fn escapes_are_not_undone_in_labels() {
-        assert_eq!(hidden("[a!]: x\n[a\\!]: x\n"), [None, None]);
+        assert_eq!(hidden("[a!]: x\n[a\\!]: x\n", None), [None, None]);
     }
 }

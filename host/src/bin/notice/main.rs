@@ -1,6 +1,6 @@
-//! The command-line tool `notice`, over the three entries of the proved library.
+//! The command-line tool `notice`, over the entries of the proved library.
 //!
-//! Whatever it says of a note comes from those entries; what is its own is the arguments, the
+//! Whatever it says of a note and a sheet comes from those entries; what is its own is the arguments, the
 //! columns, the lines that no row has, and the words. `help.txt` is what `notice --help` prints.
 
 #![forbid(unsafe_code)]
@@ -16,6 +16,7 @@ mod refusal;
 mod rows;
 mod standalone;
 mod table;
+mod texts;
 mod visible;
 
 use std::ffi::OsStr;
@@ -24,6 +25,7 @@ use std::process::ExitCode;
 use arguments::Command;
 use fault::Fault;
 use places::Place;
+use texts::{Files, Texts};
 
 const HELP: &str = include_str!("help.txt");
 const VERSION: &str = concat!("notice ", env!("CARGO_PKG_VERSION"), "\n");
@@ -44,53 +46,57 @@ fn run(command: Command) -> Result<u8, Fault> {
     match command {
         Command::Help => files::write(&[HELP.as_bytes()])?,
         Command::Version => files::write(&[VERSION.as_bytes()])?,
-        Command::Page { standalone, file } => page(standalone, &file)?,
-        Command::Links { json, file } => links(json, &file)?,
-        Command::Where { label, file } => destination(&label, &file)?,
-        Command::Check { file } => return check(&file),
+        Command::Page { standalone, files } => page(standalone, files)?,
+        Command::Links { json, files } => links(json, files)?,
+        Command::Where { label, files } => destination(&label, files)?,
+        Command::Check { files } => return check(files),
     }
     Ok(0)
 }
 
-fn page(standalone: bool, file: &OsStr) -> Result<(), Fault> {
-    let note = files::read(file)?;
-    let page = library::page(&note).map_err(|failure| refusal::fault(failure, file, &note))?;
+fn page(standalone: bool, files: Files) -> Result<(), Fault> {
+    let texts = Texts::read(files)?;
+    let page = library::page(&texts).map_err(|failure| refusal::fault(failure, &texts))?;
     if standalone {
-        let head = standalone::head(file);
+        let head = standalone::head(&texts.files.note);
         files::write(&[head.as_bytes(), &page, standalone::FOOT.as_bytes()])
     } else {
         files::write(&[&page])
     }
 }
 
-fn links(json: bool, file: &OsStr) -> Result<(), Fault> {
-    let note = files::read(file)?;
-    let listing = listing::of(&note).map_err(|failure| refusal::fault(failure, file, &note))?;
+fn links(json: bool, files: Files) -> Result<(), Fault> {
+    let texts = Texts::read(files)?;
+    let listing = listing::of(&texts).map_err(|failure| refusal::fault(failure, &texts))?;
     let text = if json {
-        json::text(&listing)
+        json::text(&listing, &texts.files)
     } else {
-        table::text(&listing)
+        table::text(&listing, &texts.files)
     };
     files::write(&[text.as_bytes()])
 }
 
-fn destination(label: &OsStr, file: &OsStr) -> Result<(), Fault> {
-    let note = files::read(file)?;
-    let found = library::resolve(&note, label.as_encoded_bytes())
-        .map_err(|failure| refusal::fault(failure, file, &note))?;
-    let place = Place::counted(&note, found.start);
-    let shown = visible::destination(&String::from_utf8_lossy(&note[found]));
-    let text = format!("{shown}, line {} (column {})\n", place.line, place.column);
+/// Says in which file the destination stands where there are two.
+fn destination(label: &OsStr, files: Files) -> Result<(), Fault> {
+    let texts = Texts::read(files)?;
+    let (which, found) = library::resolve(&texts, label.as_encoded_bytes())
+        .map_err(|failure| refusal::fault(failure, &texts))?;
+    let bytes = texts.bytes(which);
+    let Place { line, column } = Place::counted(bytes, found.start);
+    let shown = visible::destination(&String::from_utf8_lossy(&bytes[found]));
+    let file = texts.files.told_apart(which);
+    let file = file.map_or_else(String::new, |name| files::shown_name(name) + " ");
+    let text = format!("{shown}, {file}line {line} (column {column})\n");
     files::write(&[text.as_bytes()])
 }
 
 /// A refusal is what was asked for here, so it stands on standard output.
-fn check(file: &OsStr) -> Result<u8, Fault> {
-    let note = files::read(file)?;
-    let Err(failure) = library::read(&note) else {
+fn check(files: Files) -> Result<u8, Fault> {
+    let texts = Texts::read(files)?;
+    let Err(failure) = library::read(&texts) else {
         return Ok(0);
     };
-    match refusal::fault(failure, file, &note) {
+    match refusal::fault(failure, &texts) {
         Fault::Refused { number, line } => {
             files::write(&[line.as_bytes(), b"\n"])?;
             Ok(number)

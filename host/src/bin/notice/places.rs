@@ -9,9 +9,9 @@ pub struct Place {
 }
 
 impl Place {
-    /// The place of a byte of the note, or of the note's end, whose line is known from a row.
-    pub fn on_line(line: usize, note: &[u8], byte: usize) -> Place {
-        let before = &note[..byte];
+    /// The place of a byte of a text, or of the text's end, whose line is known from a row.
+    pub fn on_line(line: usize, text: &[u8], byte: usize) -> Place {
+        let before = &text[..byte];
         let last_line_end = before.iter().rposition(|byte| *byte == b'\n');
         let line_start = last_line_end.map_or(0, |at| at + 1);
         Place {
@@ -21,9 +21,9 @@ impl Place {
     }
 
     /// The same where no row says the line: it is counted too.
-    pub fn counted(note: &[u8], byte: usize) -> Place {
-        let line_ends = note[..byte].iter().filter(|byte| **byte == b'\n');
-        Place::on_line(1 + line_ends.count(), note, byte)
+    pub fn counted(text: &[u8], byte: usize) -> Place {
+        let line_ends = text[..byte].iter().filter(|byte| **byte == b'\n');
+        Place::on_line(1 + line_ends.count(), text, byte)
     }
 }
 
@@ -39,8 +39,8 @@ fn characters(bytes: &[u8]) -> usize {
 mod tests {
     use super::Place;
 
-    fn place(note: &[u8], byte: usize) -> (usize, usize) {
-        let Place { line, column } = Place::counted(note, byte);
+    fn place(text: &[u8], byte: usize) -> (usize, usize) {
+        let Place { line, column } = Place::counted(text, byte);
         (line, column)
     }
 
@@ -62,10 +62,10 @@ mod tests {
 
     #[test]
     fn columns_count_characters() {
-        let note = "µg é😀[x]".as_bytes();
-        let bracket = note.iter().position(|byte| *byte == b'[').unwrap();
+        let text = "µg é😀[x]".as_bytes();
+        let bracket = text.iter().position(|byte| *byte == b'[').unwrap();
         assert_eq!(bracket, 10);
-        assert_eq!(place(note, bracket), (1, 6));
+        assert_eq!(place(text, bracket), (1, 6));
         assert_eq!(place(b"\ta", 1), (1, 2));
         assert_eq!(place("e\u{301}x".as_bytes(), 3), (1, 3));
     }

@@ -1,68 +1,70 @@
 //! Refusals in words: where, what was met, and what to do.
 
-use std::ffi::OsStr;
-
 use crate::fault::Fault;
 use crate::files;
 use crate::library::{Failure, Refusal};
 use crate::places::Place;
+use crate::texts::{Texts, Which};
 
-/// "note longer than 32,768 bytes".
-const LONGEST_NOTE: u64 = 32_768;
+/// "note longer than 32,768 bytes", and the sheet "under the same limits".
+const LONGEST_TEXT: u64 = 32_768;
 /// Refusal 4 is given where more are open at once.
 const MOST_BRACKETS_OPEN: u64 = 1_024;
 /// Where a refusal stands that has no place.
 const NO_PLACE: Place = Place { line: 1, column: 1 };
 
 /// The fault that a failure is, with the line that says it.
-pub fn fault(failure: Failure, file: &OsStr, note: &[u8]) -> Fault {
-    let refusal = match failure {
-        Failure::Fault(fault) => return fault,
-        Failure::Refused(refusal) => refusal,
-    };
-    match words(refusal, note) {
-        None => Fault::Library("a refusal that it doesn't have"),
-        Some((number, place, words)) => {
-            let name = files::shown_name(file);
-            let Place { line, column } = place;
-            Fault::Refused {
-                number,
-                line: format!("{name}:{line}:{column}: refusal {number}: {words}"),
-            }
+pub fn fault(failure: Failure, texts: &Texts) -> Fault {
+    match failure {
+        Failure::Fault(fault) => fault,
+        Failure::Refused(refusal) => {
+            said(refusal, texts).unwrap_or(Fault::Library("a refusal that it doesn't have"))
         }
     }
 }
 
-/// The refusal's number, place and words, if there is one like it.
-fn words(refusal: Refusal, note: &[u8]) -> Option<(u8, Place, String)> {
-    match refusal.number {
-        1 => Some((1, NO_PLACE, too_long(refusal.value))),
-        2 => {
-            let (byte, place) = met(refusal.value, note)?;
+/// The line that names the file, place and number of a refusal, if there is one like it.
+fn said(refusal: Refusal, texts: &Texts) -> Option<Fault> {
+    let which = Which::of(refusal.text)?;
+    let name = files::shown_name(texts.files.name(which)?);
+    let (number, Place { line, column }, words) = words(refusal, which, texts)?;
+    Some(Fault::Refused {
+        number,
+        line: format!("{name}:{line}:{column}: refusal {number}: {words}"),
+    })
+}
+
+/// The number, place and words of a refusal. Only 1 and 2 are ever about the sheet.
+fn words(refusal: Refusal, which: Which, texts: &Texts) -> Option<(u8, Place, String)> {
+    match (refusal.number, which) {
+        (1, _) => Some((1, NO_PLACE, too_long(refusal.value, which))),
+        (2, _) => {
+            let (byte, place) = met(refusal.value, texts.bytes(which))?;
             Some((2, place, no_good_character(byte)))
         }
-        4 => {
-            let (_, place) = met(refusal.value, note)?;
+        (4, Which::Note) => {
+            let (_, place) = met(refusal.value, &texts.note)?;
             Some((4, place, too_deep()))
         }
-        7 => Some((7, NO_PLACE, NO_DEFINITION.to_string())),
-        8 => Some((8, NO_PLACE, NO_LABEL.to_string())),
+        (7, Which::Note) => Some((7, NO_PLACE, no_definition(texts))),
+        (8, Which::Note) => Some((8, NO_PLACE, NO_LABEL.to_string())),
         _ => None,
     }
 }
 
 /// The byte at the place that a refusal returns, and its line and column.
-fn met(value: u64, note: &[u8]) -> Option<(u8, Place)> {
+fn met(value: u64, text: &[u8]) -> Option<(u8, Place)> {
     let at = usize::try_from(value).ok()?;
-    let byte = *note.get(at)?;
-    Some((byte, Place::counted(note, at)))
+    let byte = *text.get(at)?;
+    Some((byte, Place::counted(text, at)))
 }
 
-fn too_long(length: u64) -> String {
-    format!(
-        "the note has {length} bytes and may have {LONGEST_NOTE}; \
-         split it into shorter notices"
-    )
+fn too_long(length: u64, which: Which) -> String {
+    let (text, advice) = match which {
+        Which::Note => ("note", "split it into shorter notices"),
+        Which::Sheet => ("sheet", "take out what no notice cites"),
+    };
+    format!("the {text} has {length} bytes and may have {LONGEST_TEXT}; {advice}")
 }
 
 fn no_good_character(byte: u8) -> String {
@@ -84,8 +86,16 @@ fn too_deep() -> String {
     )
 }
 
-const NO_DEFINITION: &str = "no definition in the note has this label; \
-                             'notice links' lists the labels that it has";
+fn no_definition(texts: &Texts) -> String {
+    let (where_looked, they_have) = match texts.files.sheet {
+        None => ("the note", "it has"),
+        Some(_) => ("the note or the sheet", "they have"),
+    };
+    format!(
+        "no definition in {where_looked} has this label; \
+         'notice links' lists the labels that {they_have}"
+    )
+}
 
 const NO_LABEL: &str = "this is not one label; give it without its brackets, not blank, \
                         in at most 999 characters, with \\[ and \\] for brackets inside it";
@@ -95,25 +105,39 @@ mod tests {
     use super::fault;
     use crate::fault::Fault;
     use crate::library::{Failure, Refusal};
-    use std::ffi::OsStr;
+    use crate::texts::Texts;
 
-    fn fault_of(number: u32, value: u64) -> Fault {
-        let refusal = Failure::Refused(Refusal { number, value });
-        fault(refusal, OsStr::new("x"), b"a\nb\0")
+    fn fault_of(number: u32, value: u64, text: u64, sheet: Option<&str>) -> Fault {
+        let refusal = Refusal {
+            number,
+            value,
+            text,
+        };
+        fault(Failure::Refused(refusal), &Texts::of("a\nb\0", sheet))
     }
 
     #[test]
     fn answers_that_the_promise_excludes_are_faults_of_the_library() {
         for (number, value) in [(0, 0), (3, 1), (6, 1), (9, 0), (2, 4), (4, u64::MAX)] {
-            assert_eq!(fault_of(number, value).status(), 70, "{number} {value}");
+            for text in [0, 1] {
+                let fault = fault_of(number, value, text, Some("c\n"));
+                assert_eq!(fault.status(), 70, "{number} {value} {text}");
+            }
         }
+        for (number, value) in [(4, 0), (7, 0), (8, 0)] {
+            let fault = fault_of(number, value, 1, Some("c\n"));
+            assert_eq!(fault.status(), 70, "{number} of the sheet");
+        }
+        assert_eq!(fault_of(1, 40_000, 2, Some("")).status(), 70);
+        assert_eq!(fault_of(1, 40_000, 1, None).status(), 70);
     }
 
     #[test]
-    fn a_place_is_a_line_and_a_column() {
-        assert!(fault_of(2, 3)
-            .to_string()
-            .starts_with("x:2:2: refusal 2: byte 0 "));
-        assert!(fault_of(7, 0).to_string().starts_with("x:1:1: refusal 7: "));
+    fn a_place_is_a_line_and_a_column_of_its_own_text() {
+        let said = |number, value, text| fault_of(number, value, text, Some("c\0")).to_string();
+        assert!(said(2, 3, 0).starts_with("note:2:2: refusal 2: byte 0 "));
+        assert!(said(2, 1, 1).starts_with("sheet:1:2: refusal 2: byte 0 "));
+        assert!(said(1, 40_000, 1).starts_with("sheet:1:1: refusal 1: the sheet has 40000 "));
+        assert!(said(7, 0, 0).starts_with("note:1:1: refusal 7: "));
     }
 }

@@ -2,14 +2,18 @@
 
 use std::ops::Range;
 
-/// "Definition row, six 32-bit numbers", and "one more number at its end", the line.
-pub const DEFINITION_WIDTH: usize = 7;
+use crate::texts::Which;
+
+/// "Definition row, six 32-bit numbers", "a leading number, 0 for note and 1 for sheet", and "one
+/// more number at its end", the line.
+pub const DEFINITION_WIDTH: usize = 8;
 /// "ten 32-bit numbers a row", and the line.
 pub const SPAN_WIDTH: usize = 11;
 
-/// A definition's parts, as places in the note.
+/// A definition's parts, as places in the text where it stands.
 #[derive(Debug, PartialEq, Eq)]
 pub struct DefinitionRow {
+    pub which: Which,
     pub label: Range<usize>,
     pub destination: Range<usize>,
     pub title: Option<Range<usize>>,
@@ -27,7 +31,8 @@ pub enum Kind {
     Shortcut,
 }
 
-/// A span's parts, as places in the note.
+/// A span's parts, as places in the note; a reference's destination and title "lie in the text that
+/// its definition row names".
 #[derive(Debug, PartialEq, Eq)]
 pub struct SpanRow {
     pub kind: Kind,
@@ -65,17 +70,22 @@ impl Kind {
     }
 }
 
-/// The rows of a definition table.
-pub fn definitions(table: &[u32]) -> Vec<DefinitionRow> {
+/// The rows of a definition table; none at all if some row names no text.
+pub fn definitions(table: &[u32]) -> Option<Vec<DefinitionRow>> {
     table
         .chunks_exact(DEFINITION_WIDTH)
-        .map(|row| DefinitionRow {
-            label: range(row[0], row[1]),
-            destination: range(row[2], row[3]),
-            title: part(row[4], row[5]),
-            line: row[6] as usize,
-        })
+        .map(definition)
         .collect()
+}
+
+fn definition(row: &[u32]) -> Option<DefinitionRow> {
+    Some(DefinitionRow {
+        which: Which::of(row[0].into())?,
+        label: range(row[1], row[2]),
+        destination: range(row[3], row[4]),
+        title: part(row[5], row[6]),
+        line: row[7] as usize,
+    })
 }
 
 /// The rows of a span table; none at all if some row has no kind that is known.
@@ -99,7 +109,7 @@ fn range(start: u32, end: u32) -> Range<usize> {
     start as usize..end as usize
 }
 
-/// "An absent part is 0, 0"; an empty one stands at its place, which is never the note's start.
+/// "An absent part is 0, 0"; an empty one stands at its place, which is never a text's start.
 fn part(start: u32, end: u32) -> Option<Range<usize>> {
     (end != 0).then(|| range(start, end))
 }
@@ -107,18 +117,24 @@ fn part(start: u32, end: u32) -> Option<Range<usize>> {
 #[cfg(test)]
 mod tests {
     use super::{definitions, spans, DefinitionRow, Kind, SpanRow};
+    use crate::texts::Which;
 
     /// The numbers of a row all differ, so that none can stand for another.
     #[test]
     fn every_number_has_its_name() {
-        let row = |line| DefinitionRow {
+        let row = |which, line| DefinitionRow {
+            which,
             label: 11..12,
             destination: 13..14,
             title: Some(15..16),
             line,
         };
-        let table = [11, 12, 13, 14, 15, 16, 17, 11, 12, 13, 14, 15, 16, 18];
-        assert_eq!(definitions(&table), [row(17), row(18)]);
+        let table = [
+            [0, 11, 12, 13, 14, 15, 16, 17],
+            [1, 11, 12, 13, 14, 15, 16, 18],
+        ];
+        let rows = [row(Which::Note, 17), row(Which::Sheet, 18)];
+        assert_eq!(definitions(&table.concat()), Some(rows.into()));
         let row = |kind, line| SpanRow {
             kind,
             whole: 21..22,
@@ -138,13 +154,18 @@ mod tests {
 
     #[test]
     fn absent_parts() {
-        let row = &definitions(&[1, 2, 5, 6, 0, 0, 1])[0];
+        let row = &definitions(&[0, 1, 2, 5, 6, 0, 0, 1]).expect("a definition")[0];
         assert_eq!(row.title, None);
         let row = &spans(&[1, 0, 3, 1, 2, 0, 0, 0, 0, 0, 1]).expect("a code span")[0];
         assert_eq!(
             (row.definition, &row.destination, &row.title),
             (None, &None, &None)
         );
+    }
+
+    #[test]
+    fn numbers_that_stand_for_nothing() {
+        assert_eq!(definitions(&[2, 1, 2, 5, 6, 0, 0, 1]), None);
         assert_eq!(spans(&[6, 0, 3, 1, 2, 0, 0, 0, 0, 0, 1]), None);
     }
 }

@@ -1,23 +1,28 @@
 //! The listing as tables for people.
 
-use crate::listing::{Code, Definition, Hidden, Link, Listing, Part};
+use crate::files;
+use crate::listing::{Code, Definition, Hidden, Link, Listing, Named, Part};
 use crate::places::Place;
+use crate::texts::{Files, Which};
 use crate::visible;
 
 /// A column is padded to its widest cell, but never wider than this; longer cells are whole and
 /// push the rest of their line to the right.
 const WIDEST: usize = 60;
 
-/// The whole listing.
-pub fn text(listing: &Listing) -> String {
+/// The whole listing. Where there are two files, each definition says in which it stands.
+pub fn text(listing: &Listing, files: &Files) -> String {
+    let links = listing.links.iter().map(|one| link(one, files).into());
+    let codes = listing.codes.iter().map(|one| code(one).into());
     [
-        definitions(&listing.definitions),
-        part("Links", "", listing.links.iter().map(link), LINK_HEADS),
-        part("Code spans", "", listing.codes.iter().map(code), CODE_HEADS),
+        definitions(&listing.definitions, files),
+        part("Links", "", heads(LINK_HEADS).into(), links),
+        part("Code spans", "", heads(CODE_HEADS).into(), codes),
     ]
     .join("\n")
 }
 
+const FILE_HEAD: &str = "FILE";
 const DEFINITION_HEADS: [&str; 5] = ["LINE:COLUMN", "LABEL", "DESTINATION", "TITLE", "STATE"];
 const LINK_HEADS: [&str; 6] = [
     "LINE:COLUMN",
@@ -29,22 +34,40 @@ const LINK_HEADS: [&str; 6] = [
 ];
 const CODE_HEADS: [&str; 2] = ["LINE:COLUMN", "CODE"];
 
-fn definitions(definitions: &[Definition]) -> String {
+fn heads<const COLUMNS: usize>(heads: [&str; COLUMNS]) -> [String; COLUMNS] {
+    heads.map(str::to_string)
+}
+
+fn definitions(definitions: &[Definition], files: &Files) -> String {
     let hidden = || definitions.iter().filter_map(|one| one.hidden.as_ref());
     let differ = hidden().filter(|hidden| differs(hidden)).count();
     let remark = match hidden().count() {
         0 => ", hidden: 0".to_string(),
         count => format!(", hidden: {count}, of these different: {differ}"),
     };
-    let rows = definitions.iter().map(definition);
-    part("Definitions", &remark, rows, DEFINITION_HEADS)
+    let head = files.sheet.as_ref().map(|_| FILE_HEAD.to_string());
+    let heads = led(head, heads(DEFINITION_HEADS));
+    let rows = definitions
+        .iter()
+        .map(|one| led(file(one.which, files), definition(one, files)));
+    part("Definitions", &remark, heads, rows)
+}
+
+/// A row with one more cell before the others, or without it.
+fn led<const COLUMNS: usize>(first: Option<String>, cells: [String; COLUMNS]) -> Vec<String> {
+    first.into_iter().chain(cells).collect()
+}
+
+/// The name of a text's file, where there are two.
+fn file(which: Which, files: &Files) -> Option<String> {
+    files.told_apart(which).map(files::shown_name)
 }
 
 fn differs(hidden: &Hidden) -> bool {
     hidden.destination_differs || hidden.title_differs
 }
 
-fn definition(definition: &Definition) -> [String; 5] {
+fn definition(definition: &Definition, files: &Files) -> [String; 5] {
     [
         place(definition.place),
         visible::visible(&definition.label.text),
@@ -53,22 +76,31 @@ fn definition(definition: &Definition) -> [String; 5] {
         definition
             .hidden
             .as_ref()
-            .map_or_else(|| "first".to_string(), state),
+            .map_or_else(|| "first".to_string(), |hidden| state(hidden, files)),
     ]
 }
 
 /// How a hidden definition stands to the one that hides it.
-fn state(hidden: &Hidden) -> String {
-    let line = hidden.by.line;
+fn state(hidden: &Hidden, files: &Files) -> String {
+    let by = line_of(&hidden.by, files);
     match (hidden.destination_differs, hidden.title_differs) {
-        (false, false) => format!("hidden by line {line}, same destination and title"),
-        (true, false) => format!("HIDDEN by line {line}, DESTINATION DIFFERS"),
-        (false, true) => format!("HIDDEN by line {line}, TITLE DIFFERS"),
-        (true, true) => format!("HIDDEN by line {line}, DESTINATION AND TITLE DIFFER"),
+        (false, false) => format!("hidden by {by}, same destination and title"),
+        (true, false) => format!("HIDDEN by {by}, DESTINATION DIFFERS"),
+        (false, true) => format!("HIDDEN by {by}, TITLE DIFFERS"),
+        (true, true) => format!("HIDDEN by {by}, DESTINATION AND TITLE DIFFER"),
     }
 }
 
-fn link(link: &Link) -> [String; 6] {
+/// The line where a definition stands, and before it the file, where there are two.
+fn line_of(named: &Named, files: &Files) -> String {
+    let line = format!("line {}", named.line);
+    match file(named.which, files) {
+        Some(file) => format!("{file} {line}"),
+        None => line,
+    }
+}
+
+fn link(link: &Link, files: &Files) -> [String; 6] {
     [
         place(link.place),
         link.kind.word().to_string(),
@@ -80,7 +112,7 @@ fn link(link: &Link) -> [String; 6] {
         title(link.title.as_ref()),
         link.definition.as_ref().map_or_else(
             || "none needed".to_string(),
-            |definition| format!("line {}", definition.line),
+            |definition| line_of(definition, files),
         ),
     ]
 }
@@ -98,13 +130,13 @@ fn title(title: Option<&Part>) -> String {
 }
 
 /// A part's name and count with a remark on it, and the table if there are rows.
-fn part<const COLUMNS: usize>(
+fn part(
     name: &str,
     remark: &str,
-    rows: impl Iterator<Item = [String; COLUMNS]>,
-    heads: [&str; COLUMNS],
+    heads: Vec<String>,
+    rows: impl Iterator<Item = Vec<String>>,
 ) -> String {
-    let mut table = vec![heads.map(str::to_string)];
+    let mut table = vec![heads];
     table.extend(rows);
     match table.len() - 1 {
         0 => format!("{name}: none\n"),
@@ -113,15 +145,16 @@ fn part<const COLUMNS: usize>(
 }
 
 /// The rows as lines with aligned columns, two spaces between them.
-fn aligned<const COLUMNS: usize>(rows: &[[String; COLUMNS]]) -> String {
-    let widths: [usize; COLUMNS] = std::array::from_fn(|column| {
+fn aligned(rows: &[Vec<String>]) -> String {
+    let width = |column: usize| {
         let cells = rows.iter().map(|row| row[column].chars().count());
         cells.filter(|width| *width <= WIDEST).max().unwrap_or(0)
-    });
+    };
+    let widths: Vec<usize> = (0..rows[0].len()).map(width).collect();
     rows.iter().map(|row| line(row, &widths)).collect()
 }
 
-fn line<const COLUMNS: usize>(row: &[String; COLUMNS], widths: &[usize; COLUMNS]) -> String {
+fn line(row: &[String], widths: &[usize]) -> String {
     let cells = row.iter().zip(widths);
     let line: String = cells
         .map(|(cell, width)| format!("  {cell:width$}"))
@@ -137,7 +170,7 @@ mod tests {
     fn long_cells_are_whole_and_widen_no_column() {
         let long = "x".repeat(WIDEST + 1);
         let rows = [["é", "b"], ["aaa", "c"], [&long, "d"]];
-        let rows = rows.map(|row| row.map(str::to_string));
+        let rows = rows.map(|row| row.map(str::to_string).to_vec());
         assert_eq!(aligned(&rows), format!("  é    b\n  aaa  c\n  {long}  d\n"));
     }
 }

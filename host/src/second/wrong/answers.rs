@@ -14,6 +14,15 @@ impl Reader {
         }
     }
 
+    /// The same of the definition table.
+    pub(in super::super) fn definition_rows_lent(self, numbers: usize) -> usize {
+        let width = match self.wrong {
+            Some(Wrong::TextTakesNoRoom) => DEFINITION_ROW_WIDTH - 1,
+            _ => DEFINITION_ROW_WIDTH,
+        };
+        self.rows_lent(numbers, width)
+    }
+
     /// What is needed.
     pub(in super::super) fn need(self, needed: usize, lent: usize) -> usize {
         match self.wrong {
@@ -29,6 +38,7 @@ impl Reader {
         lent: Lent,
     ) -> RenderAnswer {
         let given = answer.number;
+        answer.text = self.misread_name(given, answer.text);
         let written = |count: Option<usize>| count.unwrap_or_default();
         match self.wrong {
             Some(Wrong::LengthIsValue) if given == number::SUCCESS => {
@@ -89,10 +99,7 @@ impl Reader {
     ) -> Result<ResolveAnswer, Refusal> {
         match self.wrong {
             Some(Wrong::EmptyDestinationUndefined) if answer.destination.is_empty() => {
-                Err(Refusal {
-                    number: number::LABEL_UNDEFINED,
-                    value: 0,
-                })
+                Err(Refusal::of(number::LABEL_UNDEFINED, 0))
             }
             Some(Wrong::ValueIsDefinition) => Ok(ResolveAnswer {
                 value: definition,

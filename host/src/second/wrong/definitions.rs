@@ -18,21 +18,30 @@ impl Reader {
         }
     }
 
-    /// The definitions of a note; a wrong reading leaves out those with the label of an earlier one.
-    pub(in super::super) fn misread_repeats(self, definitions: &mut Vec<Definition>) {
-        if self.misreads(Wrong::RepeatsLeftOut) {
-            let mut seen = HashSet::new();
-            definitions.retain(|definition| seen.insert(definition.compared_label.clone()));
-        }
+    /// The joined list; wrong readings leave out those with the label of an earlier one, or those of the
+    /// sheet among them.
+    pub(in super::super) fn misread_repeats(self, joined: &mut Vec<Definition>) {
+        let of_sheet_only = match self.wrong {
+            Some(Wrong::RepeatsLeftOut) => false,
+            Some(Wrong::HiddenLeftOut) => true,
+            _ => return,
+        };
+        let mut seen = HashSet::new();
+        joined.retain(|definition| {
+            let first = seen.insert(definition.compared_label.clone());
+            first || (of_sheet_only && !definition.is_of_sheet())
+        });
     }
 
     /// The definitions that a paragraph sees, which starts at this place: all of them.
-    pub(in super::super) fn definitions_seen(
+    pub(in super::super) fn definitions_seen<'d, 't>(
         self,
-        definitions: &[Definition],
+        definitions: &'d [Definition<'t>],
         paragraph: usize,
-    ) -> &[Definition] {
-        let earlier = |definition: &Definition| definition.label.start < paragraph;
+    ) -> &'d [Definition<'t>] {
+        let earlier = |definition: &Definition| {
+            !definition.is_of_sheet() && definition.label.start < paragraph
+        };
         match self.wrong {
             Some(Wrong::LaterDefinitionsUnseen) => {
                 &definitions[..definitions.partition_point(earlier)]

@@ -1,31 +1,37 @@
 //! Misreadings of lines.
 
+use super::super::definitions::Definition;
 use super::super::marking::{Marking, Piece, PieceKind};
-use super::super::rows::{kind, DefinitionRow, Lines, SpanRow};
+use super::super::rows::{kind, DefinitionRow, SpanRow};
+use super::super::source::Source;
 use super::super::text::is_space;
 use super::{Reader, Wrong};
 
 /// Where a row has its line.
-const DEFINITION_LINE: usize = 6;
+pub(super) const DEFINITION_LINE: usize = 7;
 const SPAN_LINE: usize = 10;
 
 impl Reader {
-    /// The rows of a note's definitions as they are.
+    /// The rows of the joined list as they are.
     pub(in super::super) fn misread_definition_lines(
         self,
         mut rows: Vec<DefinitionRow>,
-        lines: &Lines,
+        joined: &[Definition],
     ) -> Vec<DefinitionRow> {
-        let mut inside_earlier = 0;
-        for row in &mut rows {
-            let [label_start, _, destination_start, destination_end, _, title_end, right] = *row;
+        // In each text.
+        let mut inside_earlier = [0, 0];
+        for (row, definition) in rows.iter_mut().zip(joined) {
+            let [text, label_start, _, destination_start, destination_end, _, title_end, right] =
+                *row;
+            let source = definition.source;
+            let inside_earlier = &mut inside_earlier[text as usize];
             let start = label_start as usize - 1;
             row[DEFINITION_LINE] = match self.wrong {
-                Some(Wrong::LineOfDestination) => lines.line(destination_start as usize),
-                Some(Wrong::DefinitionLinesUncounted) => right - inside_earlier,
-                _ => self.misread_line(lines, start, right),
+                Some(Wrong::LineOfDestination) => source.line(destination_start as usize),
+                Some(Wrong::DefinitionLinesUncounted) => right - *inside_earlier,
+                _ => self.misread_line(source, start, right),
             };
-            inside_earlier += lines.line(destination_end.max(title_end) as usize) - right;
+            *inside_earlier += source.line(destination_end.max(title_end) as usize) - right;
         }
         rows
     }
@@ -35,8 +41,8 @@ impl Reader {
         self,
         mut row: SpanRow,
         marking: &Marking,
-        lines: &Lines,
     ) -> SpanRow {
+        let lines = marking.source;
         let [kind, start, end, _, text_end, _, destination, destination_end, .., right] = row;
         let bracket = |place: Option<usize>| place.map_or(right, |place| lines.line(place));
         row[SPAN_LINE] = match (self.wrong, kind) {
@@ -65,8 +71,8 @@ impl Reader {
     }
 
     /// The line of a place of either table as it is.
-    fn misread_line(self, lines: &Lines, place: usize, right: u32) -> u32 {
-        let before = &lines.note[..place];
+    fn misread_line(self, source: &Source, place: usize, right: u32) -> u32 {
+        let before = &source.text[..place];
         let ends_line = |character: &char| {
             matches!(
                 character,

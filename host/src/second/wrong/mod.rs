@@ -8,11 +8,14 @@ mod labels;
 mod lines;
 mod marking;
 mod page;
+mod parameters;
 mod rows;
+mod sheets;
 mod switches;
 mod text;
 
-pub use switches::{Gap, IllFormed, Within, Written, Wrong};
+pub use parameters::{Gap, IllFormed, Within, Written};
+pub use switches::Wrong;
 
 /// Who reads: by the rules, or with one of them misread.
 #[derive(Clone, Copy, Debug, PartialEq, Eq)]

@@ -6,15 +6,15 @@ use super::{Reader, Wrong};
 use std::ops::Range;
 
 /// Where a row has its destination and title, start and end of each.
-const DEFINITION_TARGET: Range<usize> = 2..6;
+const DEFINITION_TARGET: Range<usize> = 3..7;
 const SPAN_TARGET: Range<usize> = 6..10;
 
 impl Reader {
     /// A definition row as it is.
     pub(in super::super) fn misread_definition_row(self, mut row: DefinitionRow) -> DefinitionRow {
         match self.wrong {
-            Some(Wrong::BracketsInLabelRow) => (row[0], row[1]) = (row[0] - 1, row[1] + 1),
-            Some(Wrong::EndsInclusive) => row[1] -= 1,
+            Some(Wrong::BracketsInLabelRow) => (row[1], row[2]) = (row[1] - 1, row[2] + 1),
+            Some(Wrong::EndsInclusive) => row[2] -= 1,
             _ => self.misread_target(&mut row[DEFINITION_TARGET]),
         }
         row

@@ -1,54 +1,8 @@
 //! The switches: every wrong reading that the second reader can be told to make.
 
 use super::super::answers::number;
-
-/// Where separating space stands.
-#[derive(Clone, Copy, Debug, PartialEq, Eq)]
-pub enum Gap {
-    BeforeDestination,
-    BeforeTitle,
-    AfterDestination,
-    AfterTitle,
-    TailStart,
-    TailTitle,
-    TailEnd,
-}
-
-/// What escapes are read in.
-#[derive(Clone, Copy, Debug, PartialEq, Eq)]
-pub enum Within {
-    Paragraph,
-    Label,
-    Pointed,
-    Bare,
-    Title,
-}
-
-/// What is written in the page.
-#[derive(Clone, Copy, Debug, PartialEq, Eq)]
-pub enum Written {
-    Text,
-    Code,
-    Title,
-    Destination,
-}
-
-/// Bytes that are no character and that a careless check lets through.
-#[derive(Clone, Copy, Debug, PartialEq, Eq)]
-pub enum IllFormed {
-    /// A character written with more bytes than it needs.
-    Overlong,
-    /// U+D800 to U+DFFF.
-    Surrogate,
-    /// U+110000 and later.
-    PastTheLast,
-    /// A sequence of five bytes.
-    FiveBytes,
-    /// A byte 128 to 191 that follows nothing.
-    Stray,
-    /// A sequence that the end of the text cuts short.
-    CutShort,
-}
+use super::super::source::Origin;
+use super::parameters::{self, Gap, IllFormed, Within, Written};
 
 /// The switches without a parameter are named one by one; [`Wrong::all`] adds those with one.
 macro_rules! switches {
@@ -85,6 +39,22 @@ macro_rules! switches {
             WritesWhatFits(u32),
             /// Such bytes are taken for characters.
             Forgives(IllFormed),
+            /// The refusal with this number is not given for the sheet.
+            SheetUnchecked(u32),
+            /// An answer with this number names the sheet always.
+            NamesSheet(u32),
+            /// The refusal with this number names the note always.
+            NamesNote(u32),
+            /// Where the enquiry finds a destination it names this text always.
+            EnquiryNames(Origin),
+            /// The enquiry's part is one of this text always.
+            PartOf(Origin),
+            /// A reference's destination or title on the page is taken from this text always.
+            ReferenceFrom(Origin, Written),
+            /// An inline link's destination or title on the page is taken from the sheet.
+            InlineFromSheet(Written),
+            /// Note and sheet are read as one text, with so many LFs between them.
+            OneText(usize),
         }
 
         /// The switches without a parameter.
@@ -112,6 +82,17 @@ switches! {
     /// The place counts characters.
     BadPlaceInCharacters,
 
+    // Refusals 1 and 2 of the two texts.
+    SheetCheckedFirst,
+    /// Refusal 1 is checked on both texts, then refusal 2.
+    LengthsFirst,
+    /// The limit is that of the note and the sheet together.
+    LimitOfBothTexts,
+    /// The place of a bad byte in the sheet counts on from the note's end.
+    BadPlaceGoesOn,
+    /// The note's definitions are stored before the sheet is checked.
+    StoredBeforeSheet,
+
     // Refusals 3 to 6: order, need, values, counts.
     DeepBeforeDefinitions,
     SpansBeforeDeep,
@@ -120,6 +101,10 @@ switches! {
     PartRowsCount,
     /// Whole rows are counted without their line.
     LineTakesNoRoom,
+    /// Whole definition rows are counted without their text.
+    TextTakesNoRoom,
+    /// Refusal 3 counts the note's definitions alone; of the rows, those are stored for which there is room.
+    NoteRowsCounted,
     /// The value is what is missing, not what is needed.
     ValueIsMissing,
     LengthIsValue,
@@ -159,6 +144,33 @@ switches! {
     /// A definition with the label of an earlier one has no row.
     RepeatsLeftOut,
     LastDefinition,
+
+    // The sheet.
+    SheetIgnored,
+    /// In a lookup the sheet's definitions come before the note's.
+    SheetLookedUpFirst,
+    /// A definition of the sheet with the label of an earlier one has no row.
+    HiddenLeftOut,
+    /// The sheet's rows are stored before the note's.
+    SheetRowsFirst,
+    /// The leading number is 0 always.
+    LeadingZero,
+    /// The leading number is 1 for the note and 2 for the sheet.
+    TextsFromOne,
+    /// The places of a definition of the sheet count on from the note's end.
+    SheetPlacesGoOn,
+    /// The line of a definition of the sheet is counted in the note.
+    SheetLinesInNote,
+    /// The lines of the sheet go on from those of the note.
+    SheetLinesGoOn,
+    /// A definition's number is counted in its own text.
+    NumberInOwnText,
+    /// The spans of the sheet's paragraphs have rows.
+    SheetSpans,
+    /// The sheet's paragraphs stand on the page.
+    SheetOnPage,
+    /// Refusal 4 reads the sheet too.
+    SheetDeep,
 
     // Labels.
     LabelOneShorter,
@@ -320,6 +332,8 @@ switches! {
     /// The enquiry gives refusal 4 too.
     EnquiryRefusesDeep,
     LabelBeforeNote,
+    /// The label is checked after the note and before the sheet.
+    LabelBeforeSheet,
     /// A label that is none is an undefined label.
     NoLabelIsUndefined,
     /// The label is judged without the bracket after it, which its last backslash would escape.
@@ -335,16 +349,7 @@ switches! {
 impl Wrong {
     /// Every switch, each with all its parameters.
     pub fn all() -> Vec<Wrong> {
-        let mut all = PLAIN.to_vec();
-        all.extend(escapes());
-        all.extend(spaces());
-        all.extend(written_bytes());
-        all.extend(['\t', '\n', ' '].map(Wrong::NoLabelSpace));
-        all.extend((b'@'..=b'[').map(Wrong::FoldOf));
-        all.extend(SHORT.map(Wrong::ExactIsShort));
-        all.extend(SHORT.map(Wrong::WritesWhatFits));
-        all.extend(FORMS.map(Wrong::Forgives));
-        all
+        [PLAIN.to_vec(), parameters::all()].concat()
     }
 
     /// Whether it concerns the enquiry alone.
@@ -353,11 +358,32 @@ impl Wrong {
             self,
             Wrong::EnquiryRefusesDeep
                 | Wrong::LabelBeforeNote
+                | Wrong::LabelBeforeSheet
                 | Wrong::NoLabelIsUndefined
                 | Wrong::LabelJudgedAlone
                 | Wrong::LabelWithBrackets
                 | Wrong::EmptyDestinationUndefined
                 | Wrong::ValueIsDefinition
+                | Wrong::EnquiryNames(_)
+                | Wrong::PartOf(_)
+                | Wrong::NamesSheet(number::LABEL_UNDEFINED | number::NOT_A_LABEL)
+        )
+    }
+
+    /// Whether it concerns what all three entries do with the two texts.
+    pub fn is_of_both_texts(self) -> bool {
+        matches!(
+            self,
+            Wrong::SheetCheckedFirst
+                | Wrong::LengthsFirst
+                | Wrong::LimitOfBothTexts
+                | Wrong::BadPlaceGoesOn
+                | Wrong::SheetIgnored
+                | Wrong::SheetLookedUpFirst
+                | Wrong::SheetUnchecked(_)
+                | Wrong::NamesNote(_)
+                | Wrong::NamesSheet(number::TEXT_TOO_LONG | number::TEXT_ILL_FORMED)
+                | Wrong::OneText(_)
         )
     }
 
@@ -385,73 +411,3 @@ impl Wrong {
         (0..all.len()).filter(first).count()
     }
 }
-
-/// Characters that can stand in a note.
-fn note_characters(last: char) -> impl Iterator<Item = char> {
-    ('\u{1}'..=last).filter(|character| *character != '\r')
-}
-
-fn escapes() -> Vec<Wrong> {
-    let within = [
-        Within::Paragraph,
-        Within::Label,
-        Within::Pointed,
-        Within::Bare,
-        Within::Title,
-    ];
-    let written = [Written::Text, Written::Title, Written::Destination];
-    let mut all: Vec<Wrong> = note_characters('\u{7f}').map(Wrong::EscapeOf).collect();
-    all.extend(within.map(Wrong::EscapeIgnored));
-    all.extend(within.map(Wrong::EscapesOverlap));
-    all.extend(written.map(Wrong::BackslashKept));
-    all
-}
-
-fn spaces() -> Vec<Wrong> {
-    let in_line = [Gap::AfterDestination, Gap::AfterTitle];
-    let over_lines = [
-        Gap::BeforeDestination,
-        Gap::BeforeTitle,
-        Gap::TailStart,
-        Gap::TailTitle,
-        Gap::TailEnd,
-    ];
-    let mut all = Vec::new();
-    for space in [' ', '\t'] {
-        all.extend(in_line.map(|gap| Wrong::NoSpace(gap, space)));
-    }
-    for space in [' ', '\t', '\n'] {
-        all.extend(over_lines.map(|gap| Wrong::NoSpace(gap, space)));
-    }
-    all.extend([Gap::BeforeTitle, Gap::TailTitle].map(Wrong::SpaceNotNeeded));
-    all
-}
-
-/// Of the bytes past 127, those that well-formed text has.
-fn written_bytes() -> Vec<Wrong> {
-    let mut all = Vec::new();
-    for written in [Written::Text, Written::Code, Written::Title] {
-        all.extend(['&', '<', '>', '"'].map(|raw| Wrong::Unescaped(written, raw)));
-    }
-    all.extend([Written::Text, Written::Title].map(Wrong::LineFeedSpaced));
-    let ascii = note_characters('\u{7f}').filter(|character| *character != '\n');
-    all.extend(ascii.map(|character| Wrong::HrefOf(character as u8)));
-    all.extend((0x80..=0xbf).chain(0xc2..=0xf4).map(Wrong::HrefOf));
-    all
-}
-
-/// The refusals for which too little is lent.
-const SHORT: [u32; 3] = [
-    number::FEW_DEFINITION_ROWS,
-    number::FEW_SPAN_ROWS,
-    number::PAGE_TOO_SHORT,
-];
-
-const FORMS: [IllFormed; 6] = [
-    IllFormed::Overlong,
-    IllFormed::Surrogate,
-    IllFormed::PastTheLast,
-    IllFormed::FiveBytes,
-    IllFormed::Stray,
-    IllFormed::CutShort,
-];

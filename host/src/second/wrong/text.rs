@@ -1,4 +1,4 @@
-//! Misreadings of the bytes of a note.
+//! Misreadings of the bytes of a text.
 
 use std::borrow::Cow;
 use std::str::Utf8Error;
@@ -6,17 +6,17 @@ use std::str::Utf8Error;
 use super::{IllFormed, Reader, Wrong};
 
 impl Reader {
-    /// The note's length in bytes.
-    pub(in super::super) fn counted_length(self, note: &[u8]) -> usize {
+    /// The length of a text in bytes.
+    pub(in super::super) fn counted_length(self, text: &[u8]) -> usize {
         match self.wrong {
-            Some(Wrong::NoteInCharacters) => String::from_utf8_lossy(note).chars().count(),
-            _ => note.len(),
+            Some(Wrong::NoteInCharacters) => String::from_utf8_lossy(text).chars().count(),
+            _ => text.len(),
         }
     }
 
     /// The bytes as they are; a wrong reading puts `?` where it takes an ill-formed sequence for a
     /// character.
-    pub(in super::super) fn forgiven(self, bytes: &[u8]) -> Cow<'_, [u8]> {
+    pub(super) fn forgiven(self, bytes: &[u8]) -> Cow<'_, [u8]> {
         let Some(Wrong::Forgives(form)) = self.wrong else {
             return Cow::Borrowed(bytes);
         };

@@ -1,14 +1,17 @@
--- A note has at most as many definitions as bytes.
+-- Two texts have at most as many definitions as bytes.
 use Prim.Native.Nat.{ℕ, zero, suc, _+_, _≤_}
 use native.Mathlib.Omega.{arith}
 use mathlib.Core.List.{List}
 use lib.ListN.{length, length-append}
+use Rattle.texts.specs.Texts.{Texts}
 use Rattle.block.specs.Block.{Placed}
 use Rattle.block.proofs.Places as block
 use Rattle.definition.specs.Reading.{definitionAt, takingFrom, definitionsFrom, upToEnd, definitionsOf, definitionsIn, definitions}
 use Rattle.definition.proofs.Places.{definition-onward}
 use Rattle.definition.proofs.Takings.{by-entry, from-none, from-one}
 use Rattle.definition.proofs.Notes.{end-length, starts}
+use Rattle.joined.specs.Reading.{joined}
+use Rattle.joined.proofs.Places.{length-joined}
 
 -- each definition takes a byte at least
 few-from : (s : List ℕ) (k at : ℕ) → at ≤ length s → at + length (takingFrom k s at .definitions) ≤ length s
@@ -30,3 +33,6 @@ module _ (s : List ℕ) where
   pub few-definitions : length (definitions s) ≤ length s
   unfolding definitions
   few-definitions = let h = few-in (omega arith) (block.blocks-in-order s) in omega arith
+
+pub few-joined : (T : Texts) → length (joined T) ≤ length (T .note) + length (T .sheet)
+few-joined T = omega (arith, length-joined T, few-definitions (T .note), few-definitions (T .sheet))

@@ -1,0 +1,5 @@
+pub mod Lists
+pub mod Lookup
+pub mod Spans
+pub mod Pages
+pub mod Claims

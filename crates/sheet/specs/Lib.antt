@@ -1,0 +1,4 @@
+pub mod Alone
+pub mod Answers
+pub mod Claims
+pub mod Samples
