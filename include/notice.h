@@ -49,21 +49,21 @@
  *
  * Cost
  *
- * Stack: a call takes less than 48 KiB for itself, whatever the texts (46,304 bytes at most, 384 for notice_resolve, 88 for
+ * Stack: a call takes less than 48 KiB for itself, whatever the texts (46,512 bytes at most, 640 for notice_resolve, 88 for
  * notice_same_label). It was measured on the notes of the benchmark, beside their sheets and as their own sheets, by running each
  * entry on a stack that was marked before; the library's tests do so again.
  *
  * Time: but for one thing, reading costs what the lengths of the note and the sheet cost, and the page its own length besides. It was
  * measured on a virtual core of an AMD EPYC (x86-64), with 222,913 notes of the longest size beside an empty sheet, made of short
  * words to be slow: repeated, one after the other, around a text as deep as brackets may go, and in rising runs. The slowest took 50
- * ns a byte, 1.6 ms, and the slowest enquiry, for a label of 990 blanks, 41 ns a byte of the note. The search counts 150 ns a byte, 5
- * ms for the longest note, as the most that a call may take.
+ * ns a byte, 1.6 ms, and the slowest enquiry, for a label of 990 blanks, 41 ns a byte of the note. None of 43,188 sheets beside an
+ * empty note was among the slowest. The search counts 150 ns a byte, 5 ms for the longest note, as the most that a call may take.
  *
  * What costs more is lookup, since each reference is looked up among the definitions of both texts one by one. 500 definitions and as
  * many references to them as fit took 9 ms; of notes made to be slow, some 1,600 definitions and 1,500 references whose labels differ
  * only at their ends, and in the case of their letters, took 66 ms on one machine and up to 240 ms on a slower one, the longest that
- * was found for a note alone. A note of references beside a sheet of definitions has room for twice as many of each, and takes four
- * times as long.
+ * was found for a note alone. A note of references beside a sheet of definitions has room for twice as many of each, and took three
+ * to five times as long, up to 0.6 s where a note alone took 0.1 to 0.16 s.
  *
  * A comparison of two labels costs what they have in common: labels of 999 characters took 5 to 8 ns where they differ in the first,
  * and 0.5 to 3.2 us where they are equal.
