@@ -21,6 +21,12 @@
  * Labels are equal if their bytes agree after A to Z became a to z, spaces, tabs and LFs at both ends were dropped, and each run of
  * them inside became one space. Backslashes are kept.
  *
+ * notice_read and notice_render take a setting, `release`: 0 is no, any other number yes. With yes, for a note that goes out, they
+ * refuse definitions that conflict. Two definitions conflict if their labels are equal and they differ in the bytes of the
+ * destination, in the bytes of the title, or in that only one has a title; both may stand in the note, both in the sheet, or one in
+ * each. The bytes are compared as they are written, backslashes kept, without the delimiters around them: <b> and b are one
+ * destination, "t" and (t) one title, and an empty title is a title. Repeats that are the same in all this are not refused.
+ *
  * Places are counted in bytes from the start of the text in which they lie, from 0. A part of a text is given by two places: its
  * start, and its end, which is the place of the first byte after it. A part that is absent is 0, 0. The line of a place is one more
  * than the LFs before it in its own text, so that lines count from 1 in each. A text is named by a number, NOTICE_NOTE or
@@ -40,7 +46,7 @@
  *   they may overlap, and may be one and the same memory.
  * - Until the call returns nothing else writes to any of the buffers, and nothing else reads those that the call may write to.
  *
- * Nothing else is asked of the caller: every note, every sheet, every label and every length has an answer, and every call ends.
+ * Nothing else is asked of the caller: every note, sheet, label, setting and length has an answer, and every call ends.
  * What the tables and the page buffer hold before the call does not matter.
  *
  * The library has no state, allocates no memory and calls nothing but memset and memcpy. Any number of threads may call it at
@@ -49,15 +55,16 @@
  *
  * Cost
  *
- * Stack: a call takes less than 48 KiB for itself, whatever the texts (46,512 bytes at most, 640 for notice_resolve, 88 for
+ * Stack: a call takes less than 48 KiB for itself, whatever the texts (46,608 bytes at most, 640 for notice_resolve, 88 for
  * notice_same_label). It was measured on the notes of the benchmark, beside their sheets and as their own sheets, by running each
  * entry on a stack that was marked before; the library's tests do so again.
  *
  * Time: but for one thing, reading costs what the lengths of the note and the sheet cost, and the page its own length besides. It was
- * measured on a virtual core of an AMD EPYC (x86-64), with 222,913 notes of the longest size beside an empty sheet, made of short
- * words to be slow: repeated, one after the other, around a text as deep as brackets may go, and in rising runs. The slowest took 50
- * ns a byte, 1.6 ms, and the slowest enquiry, for a label of 990 blanks, 41 ns a byte of the note. None of 43,188 sheets beside an
- * empty note was among the slowest. The search counts 150 ns a byte, 5 ms for the longest note, as the most that a call may take.
+ * measured on virtual cores of an AMD EPYC and an Intel Xeon (x86-64), with 222,913 notes of the longest size beside an empty sheet,
+ * made of short words to be slow: repeated, one after the other, around a text as deep as brackets may go, and in rising runs. The
+ * slowest took 50 ns a byte, 1.6 ms, and the slowest enquiry, for a label of 990 blanks, 51 ns a byte of the two texts. None of 43,188
+ * sheets beside an empty note was among the slowest. The search counts 150 ns a byte, 5 ms for the longest note, as the most that a
+ * call may take.
  *
  * What costs more is lookup, since each reference is looked up among the definitions of both texts one by one. 500 definitions and as
  * many references to them as fit took 9 ms; of notes made to be slow, some 1,600 definitions and 1,500 references whose labels differ
@@ -65,8 +72,12 @@
  * was found for a note alone. A note of references beside a sheet of definitions has room for twice as many of each, and took three
  * to five times as long, up to 0.6 s where a note alone took 0.1 to 0.16 s.
  *
- * A comparison of two labels costs what they have in common: labels of 999 characters took 5 to 8 ns where they differ in the first,
- * and 0.5 to 3.2 us where they are equal.
+ * All these times are with release no. With yes each definition is looked up too, among those before it one by one, so that the
+ * time for it grows with the square of the number of definitions: texts of definitions alone took up to 38 ms, and up to 155 ms with
+ * as many in the sheet.
+ *
+ * A comparison of two labels costs what they have in common: labels of 999 characters took 4 to 10 ns where they differ in the first,
+ * and 0.5 to 3.7 us where they are equal.
  *
  *
  * Answers
@@ -76,8 +87,8 @@
  * one that a refusal 1 or 2 is about, the one where a destination lies that notice_resolve found, and NOTICE_NOTE for every other
  * answer. The other numbers are 0 on a refusal.
  *
- * The first refusal that applies is the answer: 1 of the note, 2 of the note, 1 of the sheet, 2 of the sheet, and then 3, 4, 5, 6 in
- * this order; notice_resolve has 8 and then 7 after those of the two texts. notice_same_label refuses nothing.
+ * The first refusal that applies is the answer: 1 of the note, 2 of the note, 1 of the sheet, 2 of the sheet, and then 3, 9, 4, 5, 6
+ * in this order; notice_resolve has 8 and then 7 after those of the two texts. notice_same_label refuses nothing.
  *
  *   number  returned by    exactly when                                                value
  *   0       all            none of the others applies                                  see the entry
@@ -92,6 +103,8 @@
  *   7       resolve        no definition has an equal label                            0
  *   8       resolve        the bytes given are not exactly one label, or have byte 0   0
  *                          or 13 or ill-formed UTF-8
+ *   9       read, render   release is yes and two definitions conflict                 number of the first definition that conflicts
+ *                                                                                      with an earlier one, from 1, as its row counts
  */
 #ifndef NOTICE_H
 #define NOTICE_H
@@ -121,6 +134,7 @@ extern "C" {
 #define NOTICE_SHORT_PAGE 6
 #define NOTICE_UNDEFINED 7
 #define NOTICE_NO_LABEL 8
+#define NOTICE_CONFLICT 9
 
 /*
  * A definition row is eight numbers. Definition k, counted from 1, is the row at definitions + (k - 1) * NOTICE_DEFINITION_WIDTH.
@@ -170,7 +184,7 @@ extern "C" {
 #define NOTICE_SHORTCUT 5
 
 /*
- * Reads the note and the sheet and fills the two tables, or refuses.
+ * Reads the note and the sheet and fills the two tables, or refuses. `release` is 0 for no, any other number for yes.
  *
  * answer[0]  on success 0; on a refusal the value in the table above
  * answer[1]  on success the count of definitions in both texts, else 0
@@ -180,16 +194,19 @@ extern "C" {
  *   after    the definition table                    the span table
  *   0        its rows, the rest as before the call   its rows, the rest as before the call
  *   1, 2, 3  as before the call                      as before the call
- *   4, 5     its rows, the rest as before the call   as before the call
+ *   9, 4, 5  its rows, the rest as before the call   as before the call
+ *
+ * Answer 9 names NOTICE_NOTE wherever its definition stands: the text and the line of that are in its row.
  *
  * To learn how many rows a note and a sheet need, lend none: answer 3 tells the definition rows, and with these lent answer 5 tells
  * the span rows.
  */
-uint32_t notice_read(const uint8_t *note, size_t note_len, const uint8_t *sheet, size_t sheet_len, uint32_t *definitions,
-                     size_t definitions_len, uint32_t *spans, size_t spans_len, uint64_t answer[4]);
+uint32_t notice_read(const uint8_t *note, size_t note_len, const uint8_t *sheet, size_t sheet_len, uint32_t release,
+                     uint32_t *definitions, size_t definitions_len, uint32_t *spans, size_t spans_len, uint64_t answer[4]);
 
 /*
- * Reads the note and the sheet, fills the two tables and writes the note's page, or refuses.
+ * Reads the note and the sheet, fills the two tables and writes the note's page, or refuses. `release` is 0 for no, any other number
+ * for yes.
  *
  * answer[0]  on success 0; on a refusal the value in the table above
  * answer[1]  on success the count of definitions in both texts, else 0
@@ -200,14 +217,14 @@ uint32_t notice_read(const uint8_t *note, size_t note_len, const uint8_t *sheet,
  *   after    the definition table                    the span table                          the page buffer
  *   0        its rows, the rest as before the call   its rows, the rest as before the call   the HTML, the rest as before the call
  *   1, 2, 3  as before the call                      as before the call                      as before the call
- *   4, 5     its rows, the rest as before the call   as before the call                      as before the call
+ *   9, 4, 5  its rows, the rest as before the call   as before the call                      as before the call
  *   6        its rows, the rest as before the call   its rows, the rest as before the call   as before the call
  *
  * No byte 0 is written after the HTML. To learn how long the page is, lend a page buffer of length 0: answer 6 tells it.
  */
-uint32_t notice_render(const uint8_t *note, size_t note_len, const uint8_t *sheet, size_t sheet_len, uint32_t *definitions,
-                       size_t definitions_len, uint32_t *spans, size_t spans_len, uint8_t *page, size_t page_len,
-                       uint64_t answer[5]);
+uint32_t notice_render(const uint8_t *note, size_t note_len, const uint8_t *sheet, size_t sheet_len, uint32_t release,
+                       uint32_t *definitions, size_t definitions_len, uint32_t *spans, size_t spans_len, uint8_t *page,
+                       size_t page_len, uint64_t answer[5]);
 
 /*
  * Finds the destination that the note or, where it has none, the sheet gives to a label: that of the first definition with an equal

@@ -12,8 +12,9 @@ use crate::ROUNDS;
 
 /// What a note of twice the size may take, in times of the other.
 const MOST: f64 = 2.2;
-/// Their times grow with the definitions as well.
-const EXCEPTED: [&str; 2] = ["references", "references_sheet"];
+/// Their times grow with the definitions as well: each reference is looked up among them, and for a release each
+/// definition.
+const EXCEPTED: [&str; 3] = ["references", "references_sheet", "definitions_release"];
 /// How often the times of a note are taken at most.
 const MOST_TRIES: usize = 8;
 const SIZES: [usize; 3] = [LONGEST_NOTE / 4, LONGEST_NOTE / 2, LONGEST_NOTE];

@@ -61,6 +61,7 @@ impl Lent {
         entries::read(
             black_box(&note.bytes),
             black_box(&note.sheet),
+            note.release,
             &mut self.definitions,
             &mut self.spans,
         )
@@ -70,6 +71,7 @@ impl Lent {
         entries::render(
             black_box(&note.bytes),
             black_box(&note.sheet),
+            note.release,
             &mut self.definitions,
             &mut self.spans,
             &mut self.page,
@@ -82,6 +84,7 @@ pub fn second(note: &BenchNote) -> RenderAnswer {
     second::render(
         black_box(&note.bytes),
         black_box(&note.sheet),
+        note.release,
         usize::MAX,
         usize::MAX,
         usize::MAX,

@@ -37,6 +37,7 @@ fn times() -> [f64; 2] {
         name: "paragraphs",
         bytes: WORDS[place].repeat(counts[place]),
         sheet: Vec::new(),
+        release: false,
     });
     let [mut first, mut second] = [0, 1].map(|place| Lent::for_note(&notes[place]));
     let mut candidates = [

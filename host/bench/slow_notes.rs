@@ -1,6 +1,7 @@
 //! Looks for slow notes and sheets: short words, put together in a few ways up to the longest, through
 //! the proved reader and page writer, and labels that are hard to compare through the enquiry. Prints the
-//! slowest and fails where one takes longer than it may. `docs/BENCHMARK.md` says what is measured.
+//! slowest and fails where one takes longer than it may. All of it for no release: for one each definition is
+//! looked up among the others. `docs/BENCHMARK.md` says what is measured.
 //!
 //! `cargo run --release --offline --manifest-path host/Cargo.toml --bin slow_notes [SECONDS]`
 
@@ -143,9 +144,9 @@ impl Lent {
         let Shape { note, sheet, .. } = shape;
         let Lent { definitions, spans } = self;
         let start = Instant::now();
-        entries::read(note, sheet, definitions, spans);
+        entries::read(note, sheet, false, definitions, spans);
         let middle = Instant::now();
-        entries::render(note, sheet, definitions, spans, &mut []);
+        entries::render(note, sheet, false, definitions, spans, &mut []);
         let end = Instant::now();
         let bytes = (note.len() + sheet.len()) as f64;
         let per_byte = |time: Duration| time.as_nanos() as f64 / bytes;

@@ -1,6 +1,6 @@
 /* Runs the entries of notice.h on the whole example of document 01, alone and with its definition in a sheet, on every refusal of each
- * text, on empty buffers and on texts of several lines, and compares each number and all lent memory with what documents 01 and 02 say.
- * Writes "ok", or what differs, and then exits with 1. */
+ * text, on empty buffers, on texts of several lines and on definitions that conflict, each with release no and yes, and compares each
+ * number and all lent memory with what documents 01 and 02 say. Writes "ok", or what differs, and then exits with 1. */
 #include "notice.h"
 
 #include <stdio.h>
@@ -21,7 +21,8 @@
 #define SPANS (3 * SPAN + 3)
 #define PAGE 64
 
-/* A note and a sheet, and what is to be read in them. */
+/* A note and a sheet, and what is to be read in them; `conflict` is the number of the first definition that conflicts with an earlier
+ * one, 0 for none. */
 struct sample {
     const char *name;
     const uint8_t *note;
@@ -30,6 +31,7 @@ struct sample {
     size_t sheet_len;
     uint32_t definitions[3][DEFINITION];
     size_t definition_count;
+    uint64_t conflict;
     uint32_t spans[3][SPAN];
     size_t span_count;
     const char *html;
@@ -55,6 +57,10 @@ struct wanted {
 static const uint8_t EXAMPLE[] = "[max]: /q2/max \"June\"\n\nUse [max].\n";
 static const char HTML[] = "<p>Use <a href=\"/q2/max\" title=\"June\">max</a>.</p>\n";
 static const size_t FIRST_LINE = 22;
+static const size_t WITHOUT_TITLE = 14;
+
+/* The numbers that the setting is given as, the first for no, the others for yes. */
+static const uint32_t RELEASES[] = {0, 1, 2, 256, 65536, 0x80000000u, UINT32_MAX};
 
 static uint8_t room[NOTICE_LIMIT + 1];
 static uint8_t more_room[NOTICE_LIMIT + 1];
@@ -98,7 +104,14 @@ static void same_tables(const struct sample *sample, const uint32_t *definitions
     same_table(sample->name, "the span table", spans, SPANS, sample->spans[0], spanned);
 }
 
-static void read_case(const struct sample *sample, struct lent lent, struct wanted wanted) {
+/* What a call is to answer with this setting, which answers `wanted` with no: refusal 9 comes after 3. */
+static struct wanted released(const struct sample *sample, uint32_t release, struct wanted wanted) {
+    struct wanted conflict = {NOTICE_CONFLICT, sample->conflict, NOTICE_NOTE, 1, 0, 0};
+    int before = wanted.number >= NOTICE_TOO_LONG && wanted.number <= NOTICE_FEW_DEFINITION_ROWS;
+    return release == 0 || sample->conflict == 0 || before ? wanted : conflict;
+}
+
+static void read_with(const struct sample *sample, uint32_t release, struct lent lent, struct wanted wanted) {
     uint32_t definitions[DEFINITIONS];
     uint32_t spans[SPANS];
     uint64_t answer[5] = {GUARD, GUARD, GUARD, GUARD, GUARD};
@@ -110,14 +123,22 @@ static void read_case(const struct sample *sample, struct lent lent, struct want
     guard(definitions, DEFINITIONS);
     guard(spans, SPANS);
     same(sample->name, "the reader's number",
-         notice_read(sample->note, sample->note_len, sample->sheet, sample->sheet_len, lent.definitions == 0 ? NULL : definitions,
-                     lent.definitions, lent.spans == 0 ? NULL : spans, lent.spans, answer),
+         notice_read(sample->note, sample->note_len, sample->sheet, sample->sheet_len, release,
+                     lent.definitions == 0 ? NULL : definitions, lent.definitions, lent.spans == 0 ? NULL : spans, lent.spans, answer),
          wanted.number);
     same_answer(sample->name, answer, numbers, 4);
     same_tables(sample, definitions, spans, wanted);
 }
 
-static void render_case(const struct sample *sample, struct lent lent, struct wanted wanted) {
+/* With each setting; `wanted` is for no. */
+static void read_case(const struct sample *sample, struct lent lent, struct wanted wanted) {
+    size_t i;
+    for (i = 0; i < sizeof RELEASES / sizeof RELEASES[0]; i++) {
+        read_with(sample, RELEASES[i], lent, released(sample, RELEASES[i], wanted));
+    }
+}
+
+static void render_with(const struct sample *sample, uint32_t release, struct lent lent, struct wanted wanted) {
     uint32_t definitions[DEFINITIONS];
     uint32_t spans[SPANS];
     uint8_t page[PAGE];
@@ -133,13 +154,22 @@ static void render_case(const struct sample *sample, struct lent lent, struct wa
     guard(spans, SPANS);
     memset(page, GUARD_BYTE, PAGE);
     same(sample->name, "the page writer's number",
-         notice_render(sample->note, sample->note_len, sample->sheet, sample->sheet_len, lent.definitions == 0 ? NULL : definitions,
-                       lent.definitions, lent.spans == 0 ? NULL : spans, lent.spans, lent.page == 0 ? NULL : page, lent.page, answer),
+         notice_render(sample->note, sample->note_len, sample->sheet, sample->sheet_len, release,
+                       lent.definitions == 0 ? NULL : definitions, lent.definitions, lent.spans == 0 ? NULL : spans, lent.spans,
+                       lent.page == 0 ? NULL : page, lent.page, answer),
          wanted.number);
     same_answer(sample->name, answer, numbers, 5);
     same_tables(sample, definitions, spans, wanted);
     for (i = 0; i < PAGE; i++) {
         same(sample->name, "the page", page[i], wanted.paged && i < strlen(sample->html) ? (uint8_t)sample->html[i] : GUARD_BYTE);
+    }
+}
+
+/* With each setting; `wanted` is for no. */
+static void render_case(const struct sample *sample, struct lent lent, struct wanted wanted) {
+    size_t i;
+    for (i = 0; i < sizeof RELEASES / sizeof RELEASES[0]; i++) {
+        render_with(sample, RELEASES[i], lent, released(sample, RELEASES[i], wanted));
     }
 }
 
@@ -188,10 +218,10 @@ static void lending_cases(const struct sample *sample) {
 static void whole_example(void) {
     static const uint8_t apart[] = "Use [max].\n";
     struct sample sample = {"the whole example", EXAMPLE, sizeof EXAMPLE - 1, NULL, 0,
-                            {{NOTICE_NOTE, 1, 4, 7, 14, 16, 20, 1}, {NOTICE_SHEET, 1, 4, 7, 14, 16, 20, 1}}, 1,
+                            {{NOTICE_NOTE, 1, 4, 7, 14, 16, 20, 1}, {NOTICE_SHEET, 1, 4, 7, 14, 16, 20, 1}}, 1, 0,
                             {{NOTICE_SHORTCUT, 27, 32, 28, 31, 1, 7, 14, 16, 20, 3}}, 1, HTML};
     struct sample in_sheet = {"the definition in the sheet", apart, sizeof apart - 1, EXAMPLE, FIRST_LINE,
-                              {{NOTICE_SHEET, 1, 4, 7, 14, 16, 20, 1}}, 1,
+                              {{NOTICE_SHEET, 1, 4, 7, 14, 16, 20, 1}}, 1, 0,
                               {{NOTICE_SHORTCUT, 4, 9, 5, 8, 1, 7, 14, 16, 20, 1}}, 1, HTML};
     same("the whole example", "its length", sample.note_len, 34);
     same("the whole example", "the length of its page", strlen(HTML), 51);
@@ -213,7 +243,7 @@ static void both_texts(void) {
     static const uint8_t sheet[] = "\n\n[min]: /s \"S\"\n[MAX]: /t\n\n[no link](x)";
     static const struct sample sample = {
         "both texts", note, sizeof note - 1, sheet, sizeof sheet - 1,
-        {{NOTICE_NOTE, 1, 4, 7, 9, 0, 0, 1}, {NOTICE_SHEET, 3, 6, 9, 11, 13, 14, 3}, {NOTICE_SHEET, 17, 20, 23, 25, 0, 0, 4}}, 3,
+        {{NOTICE_NOTE, 1, 4, 7, 9, 0, 0, 1}, {NOTICE_SHEET, 3, 6, 9, 11, 13, 14, 3}, {NOTICE_SHEET, 17, 20, 23, 25, 0, 0, 4}}, 3, 3,
         {{NOTICE_SHORTCUT, 11, 16, 12, 15, 1, 7, 9, 0, 0, 3}, {NOTICE_SHORTCUT, 17, 22, 18, 21, 2, 9, 11, 13, 14, 3}}, 2,
         "<p><a href=\"/n\">max</a> <a href=\"/s\" title=\"S\">min</a></p>\n"};
     lending_cases(&sample);
@@ -222,11 +252,42 @@ static void both_texts(void) {
     resolve_case(&sample, "no link", 7, NOTICE_UNDEFINED, 0, 0, NOTICE_NOTE);
 }
 
+/* Definitions of one label that differ, and one that is the same in other delimiters. */
+static void conflicts(void) {
+    static const uint8_t p12[] = "[foo]\n\n[foo]: first\n[foo]: second";
+    static const uint8_t repeat[] = "[a]: /x 't'\n[A]: </x> (t)\n\n[a]";
+    static const uint8_t empty_title[] = "[a]: /x \"\"\n[a]: /x\n\n[a]";
+    static const uint8_t titled[] = "[a]: /x 't'\n\n[a]";
+    static const uint8_t other_title[] = "[b]: /x\n[a]: /x 'u'";
+    static const uint8_t cites[] = "[a]";
+    static const uint8_t in_sheet[] = "[a]: /1\n[b]: /2\n[a]: /3";
+    static const struct sample samples[] = {
+        {"P12", p12, sizeof p12 - 1, NULL, 0, {{NOTICE_NOTE, 8, 11, 14, 19, 0, 0, 3}, {NOTICE_NOTE, 21, 24, 27, 33, 0, 0, 4}}, 2, 2,
+         {{NOTICE_SHORTCUT, 0, 5, 1, 4, 1, 14, 19, 0, 0, 1}}, 1, "<p><a href=\"first\">foo</a></p>\n"},
+        {"a repeat", repeat, sizeof repeat - 1, NULL, 0,
+         {{NOTICE_NOTE, 1, 2, 5, 7, 9, 10, 1}, {NOTICE_NOTE, 13, 14, 18, 20, 23, 24, 2}}, 2, 0,
+         {{NOTICE_SHORTCUT, 27, 30, 28, 29, 1, 5, 7, 9, 10, 4}}, 1, "<p><a href=\"/x\" title=\"t\">a</a></p>\n"},
+        {"an empty title and none", empty_title, sizeof empty_title - 1, NULL, 0,
+         {{NOTICE_NOTE, 1, 2, 5, 7, 9, 9, 1}, {NOTICE_NOTE, 12, 13, 16, 18, 0, 0, 2}}, 2, 2,
+         {{NOTICE_SHORTCUT, 20, 23, 21, 22, 1, 5, 7, 9, 9, 4}}, 1, "<p><a href=\"/x\">a</a></p>\n"},
+        {"titles in both texts", titled, sizeof titled - 1, other_title, sizeof other_title - 1,
+         {{NOTICE_NOTE, 1, 2, 5, 7, 9, 10, 1}, {NOTICE_SHEET, 1, 2, 5, 7, 0, 0, 1}, {NOTICE_SHEET, 9, 10, 13, 15, 17, 18, 2}}, 3, 3,
+         {{NOTICE_SHORTCUT, 13, 16, 14, 15, 1, 5, 7, 9, 10, 3}}, 1, "<p><a href=\"/x\" title=\"t\">a</a></p>\n"},
+        {"a conflict in the sheet", cites, sizeof cites - 1, in_sheet, sizeof in_sheet - 1,
+         {{NOTICE_SHEET, 1, 2, 5, 7, 0, 0, 1}, {NOTICE_SHEET, 9, 10, 13, 15, 0, 0, 2}, {NOTICE_SHEET, 17, 18, 21, 23, 0, 0, 3}}, 3, 3,
+         {{NOTICE_SHORTCUT, 0, 3, 1, 2, 1, 5, 7, 0, 0, 1}}, 1, "<p><a href=\"/1\">a</a></p>\n"},
+    };
+    size_t i;
+    for (i = 0; i < sizeof samples / sizeof samples[0]; i++) {
+        lending_cases(&samples[i]);
+    }
+}
+
 /* A definition and a link, each over lines, and two code spans. */
 static void over_lines(void) {
     static const uint8_t note[] = "\n\n[a\nb]:\nc\n[d\n`e\nf`](g) `h`";
     static const struct sample sample = {
-        "lines", note, sizeof note - 1, NULL, 0, {{NOTICE_NOTE, 3, 6, 9, 10, 0, 0, 3}}, 1,
+        "lines", note, sizeof note - 1, NULL, 0, {{NOTICE_NOTE, 3, 6, 9, 10, 0, 0, 3}}, 1, 0,
         {{NOTICE_CODE_SPAN, 14, 19, 15, 18, 0, 0, 0, 0, 0, 7}, {NOTICE_INLINE, 11, 23, 12, 19, 0, 21, 22, 0, 0, 6},
          {NOTICE_CODE_SPAN, 24, 27, 25, 26, 0, 0, 0, 0, 0, 8}}, 3,
         "<p><a href=\"g\">d\n<code>e f</code></a> <code>h</code></p>\n"};
@@ -236,7 +297,7 @@ static void over_lines(void) {
 /* All three entries refuse the two texts, and leave what they are lent as it was. */
 static void refused(const char *name, const uint8_t *note, size_t note_len, const uint8_t *sheet, size_t sheet_len, uint32_t number,
                     uint64_t value, uint64_t text) {
-    struct sample sample = {name, note, note_len, sheet, sheet_len, {{0}}, 0, {{0}}, 0, ""};
+    struct sample sample = {name, note, note_len, sheet, sheet_len, {{0}}, 0, 0, {{0}}, 0, ""};
     struct lent lent = {DEFINITIONS, SPANS, PAGE};
     struct wanted wanted = {number, value, text, 0, 0, 0};
     read_case(&sample, lent, wanted);
@@ -247,6 +308,7 @@ static void refused(const char *name, const uint8_t *note, size_t note_len, cons
 static void refused_texts(void) {
     static const uint8_t bad[] = {'a', 0xc3, 0xa9, 0xc3};
     static const uint8_t cr[] = {'a', 13};
+    static const uint8_t conflicting[] = "[a]: b\n[a]: c";
     size_t size = sizeof EXAMPLE - 1;
     memset(room, 'a', sizeof room);
     memset(more_room, '[', sizeof more_room);
@@ -259,12 +321,13 @@ static void refused_texts(void) {
     refused("byte 0 in the sheet", EXAMPLE, size, EXAMPLE, sizeof EXAMPLE, NOTICE_BAD_TEXT, size, NOTICE_SHEET);
     refused("bad text in both", bad, sizeof bad, cr, sizeof cr, NOTICE_BAD_TEXT, 3, NOTICE_NOTE);
     refused("bad note, long sheet", cr, sizeof cr, room, sizeof room, NOTICE_BAD_TEXT, 1, NOTICE_NOTE);
+    refused("a conflict, bad sheet", conflicting, sizeof conflicting - 1, cr, sizeof cr, NOTICE_BAD_TEXT, 1, NOTICE_SHEET);
     refused("too deep, bad sheet", more_room, NOTICE_DEPTH + 1, cr, sizeof cr, NOTICE_BAD_TEXT, 1, NOTICE_SHEET);
 }
 
 /* The reader alone, with these texts, where neither has a span. */
 static void plain(const char *name, size_t note_len, const uint8_t *sheet, size_t sheet_len, uint32_t number, uint64_t value) {
-    struct sample sample = {name, room, note_len, sheet, sheet_len, {{0}}, 0, {{0}}, 0, ""};
+    struct sample sample = {name, room, note_len, sheet, sheet_len, {{0}}, 0, 0, {{0}}, 0, ""};
     struct lent lent = {0, 0, 0};
     struct wanted wanted = {number, value, NOTICE_NOTE, 0, 0, 0};
     read_case(&sample, lent, wanted);
@@ -273,7 +336,7 @@ static void plain(const char *name, size_t note_len, const uint8_t *sheet, size_
 /* What may be in a text at most, and one more; the note's brackets are counted, the sheet's are not. */
 static void limits(void) {
     struct sample deep = {"a definition in each text, and 1,025 brackets", room, 0, EXAMPLE, 0,
-                          {{NOTICE_NOTE, 1, 4, 7, 14, 16, 20, 1}, {NOTICE_SHEET, 1, 4, 7, 14, 16, 20, 1}}, 2, {{0}}, 0, ""};
+                          {{NOTICE_NOTE, 1, 4, 7, 14, 16, 20, 1}, {NOTICE_SHEET, 1, 4, 7, 14, 16, 20, 1}}, 2, 0, {{0}}, 0, ""};
     struct lent lent = {DEFINITIONS, SPANS, PAGE};
     struct wanted wanted = {NOTICE_TOO_DEEP, 0, NOTICE_NOTE, 1, 0, 0};
     memset(room, 'a', sizeof room);
@@ -289,11 +352,18 @@ static void limits(void) {
     wanted.value = deep.note_len - 1;
     read_case(&deep, lent, wanted);
     render_case(&deep, lent, wanted);
+    deep.name = "a conflict, and 1,025 brackets";
+    deep.sheet_len = WITHOUT_TITLE;
+    deep.definitions[1][NOTICE_DEFINITION_TITLE_START] = 0;
+    deep.definitions[1][NOTICE_DEFINITION_TITLE_END] = 0;
+    deep.conflict = 2;
+    read_case(&deep, lent, wanted);
+    render_case(&deep, lent, wanted);
 }
 
 static void enquiries(void) {
     static const uint8_t empty[] = "[a]: <>";
-    struct sample sample = {"an enquiry", EXAMPLE, sizeof EXAMPLE - 1, NULL, 0, {{0}}, 0, {{0}}, 0, ""};
+    struct sample sample = {"an enquiry", EXAMPLE, sizeof EXAMPLE - 1, NULL, 0, {{0}}, 0, 0, {{0}}, 0, ""};
     resolve_case(&sample, "max", 3, NOTICE_OK, 7, 14, NOTICE_NOTE);
     resolve_case(&sample, (const char *)EXAMPLE + 1, 3, NOTICE_OK, 7, 14, NOTICE_NOTE);
     resolve_case(&sample, "\n MAX", 5, NOTICE_OK, 7, 14, NOTICE_NOTE);
@@ -336,6 +406,7 @@ static void same_labels(void) {
 int main(void) {
     whole_example();
     both_texts();
+    conflicts();
     over_lines();
     refused_texts();
     limits();

@@ -10,6 +10,7 @@ pub mod raw {
             note_len: usize,
             sheet: *const u8,
             sheet_len: usize,
+            release: u32,
             definitions: *mut u32,
             definitions_len: usize,
             spans: *mut u32,
@@ -22,6 +23,7 @@ pub mod raw {
             note_len: usize,
             sheet: *const u8,
             sheet_len: usize,
+            release: u32,
             definitions: *mut u32,
             definitions_len: usize,
             spans: *mut u32,
@@ -94,8 +96,14 @@ pub struct Enquiry {
     pub text: u64,
 }
 
-/// Reads a note with a sheet of definitions beside it and fills the two tables, or refuses.
-pub fn read(note: &[u8], sheet: &[u8], definitions: &mut [u32], spans: &mut [u32]) -> Reading {
+/// Reads a note with a sheet of definitions beside it and fills the two tables, or refuses; for a release, conflicting definitions too.
+pub fn read(
+    note: &[u8],
+    sheet: &[u8],
+    release: bool,
+    definitions: &mut [u32],
+    spans: &mut [u32],
+) -> Reading {
     let mut answer = [0; 4];
     // SAFETY: each pointer and length is a slice's own, and what is written shares no byte with another slice.
     let number = unsafe {
@@ -104,6 +112,7 @@ pub fn read(note: &[u8], sheet: &[u8], definitions: &mut [u32], spans: &mut [u32
             note.len(),
             sheet.as_ptr(),
             sheet.len(),
+            u32::from(release),
             definitions.as_mut_ptr(),
             definitions.len(),
             spans.as_mut_ptr(),
@@ -121,10 +130,11 @@ pub fn read(note: &[u8], sheet: &[u8], definitions: &mut [u32], spans: &mut [u32
     }
 }
 
-/// Reads a note with a sheet beside it, fills the two tables and writes the page, or refuses.
+/// Reads a note with a sheet beside it, fills the two tables and writes the page, or refuses; for a release, conflicting definitions too.
 pub fn render(
     note: &[u8],
     sheet: &[u8],
+    release: bool,
     definitions: &mut [u32],
     spans: &mut [u32],
     page: &mut [u8],
@@ -137,6 +147,7 @@ pub fn render(
             note.len(),
             sheet.as_ptr(),
             sheet.len(),
+            u32::from(release),
             definitions.as_mut_ptr(),
             definitions.len(),
             spans.as_mut_ptr(),

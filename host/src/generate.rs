@@ -5,4 +5,5 @@ pub mod bench_notes;
 pub mod chance;
 pub mod grammar;
 pub mod long_labels;
+pub mod repeats;
 pub mod sheets;

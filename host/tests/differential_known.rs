@@ -26,12 +26,13 @@ pub mod second {
     pub fn read(
         note: &[u8],
         sheet: &[u8],
+        release: bool,
         definition_numbers: usize,
         span_numbers: usize,
     ) -> ReadAnswer {
         let mut definitions = vec![NUMBER; definition_numbers.min(MOST_NUMBERS)];
         let mut spans = vec![NUMBER; span_numbers.min(MOST_NUMBERS)];
-        let answer = entries::read(note, sheet, &mut definitions, &mut spans);
+        let answer = entries::read(note, sheet, release, &mut definitions, &mut spans);
         ReadAnswer {
             number: answer.number,
             value: answer.value as usize,
@@ -39,13 +40,14 @@ pub mod second {
             span_count: answer.spans as usize,
             text: answer.text as usize,
             definition_rows: rows(&definitions, !matches!(answer.number, 1..=3)),
-            span_rows: rows(&spans, !matches!(answer.number, 1..=5)),
+            span_rows: rows(&spans, !matches!(answer.number, 1..=5 | 9)),
         }
     }
 
     pub fn render(
         note: &[u8],
         sheet: &[u8],
+        release: bool,
         definition_numbers: usize,
         span_numbers: usize,
         page_bytes: usize,
@@ -53,7 +55,14 @@ pub mod second {
         let mut definitions = vec![NUMBER; definition_numbers.min(MOST_NUMBERS)];
         let mut spans = vec![NUMBER; span_numbers.min(MOST_NUMBERS)];
         let mut page = vec![BYTE; page_bytes.min(MOST_BYTES)];
-        let answer = entries::render(note, sheet, &mut definitions, &mut spans, &mut page);
+        let answer = entries::render(
+            note,
+            sheet,
+            release,
+            &mut definitions,
+            &mut spans,
+            &mut page,
+        );
         RenderAnswer {
             number: answer.number,
             value: answer.value as usize,
@@ -62,7 +71,7 @@ pub mod second {
             page_length: answer.length as usize,
             text: answer.text as usize,
             definition_rows: rows(&definitions, !matches!(answer.number, 1..=3)),
-            span_rows: rows(&spans, !matches!(answer.number, 1..=5)),
+            span_rows: rows(&spans, !matches!(answer.number, 1..=5 | 9)),
             page: written(page, answer.number == 0),
         }
     }

@@ -1,10 +1,16 @@
 //! The examples of the sources against the second reader.
 
-use host::second;
+use host::second::{self, RenderAnswer};
 use host::sources::examples;
 
+/// The page writer with more lent than any note needs.
+fn render(note: &str, sheet: &str, release: bool) -> RenderAnswer {
+    let [note, sheet] = [note, sheet].map(str::as_bytes);
+    second::render(note, sheet, release, usize::MAX, usize::MAX, usize::MAX)
+}
+
 fn page(note: &str) -> String {
-    let answer = second::render(note.as_bytes(), b"", usize::MAX, usize::MAX, usize::MAX);
+    let answer = render(note, "", false);
     assert_eq!(answer.number, second::number::SUCCESS, "{note:?}");
     String::from_utf8(answer.page.expect("a page on success")).expect("a page in UTF-8")
 }
@@ -52,14 +58,33 @@ fn definitions_in_a_sheet_give_the_same_page() {
             continue;
         }
         run += 1;
-        let [bytes, beside] = [&note, &sheet].map(|text| text.as_bytes());
-        let answer = second::render(bytes, beside, usize::MAX, usize::MAX, usize::MAX);
+        let answer = render(&note, &sheet, false);
         let made = answer
             .page
             .map(|page| String::from_utf8(page).expect("UTF-8"));
         assert_eq!(made.as_ref(), Some(&example.page), "{}", example.name);
     }
     assert!(run > 50, "{run} examples");
+}
+
+/// The examples with two destinations for one label, which show that the first is opened.
+const CONFLICTING: [&str; 3] = ["example 000 552", "example 001 530", "example 002 173"];
+
+#[test]
+fn only_conflicting_examples_stop_a_release() {
+    let mut stopped = 0;
+    for example in examples().iter().filter(|example| example.is_base()) {
+        let answer = render(&example.note, "", true);
+        let name = example.name.as_str();
+        if CONFLICTING.contains(&name) {
+            stopped += 1;
+            assert_eq!((answer.number, answer.value), (9, 2), "{name}");
+        } else {
+            let page = example.page.as_bytes().to_vec();
+            assert_eq!((answer.number, answer.page), (0, Some(page)), "{name}");
+        }
+    }
+    assert_eq!(stopped, 3);
 }
 
 /// The notes of the examples have no final LF; with one the page is the same.

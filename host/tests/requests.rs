@@ -2,22 +2,25 @@
 //! second reader. A case was answered when the requests in its `in_force` were. Where request 1 was not,
 //! the sheet is empty and a definition row has seven numbers: such a case holds behind a leading 0, where as
 //! many whole definition rows are lent. Those of request 4 are older than lines, but have no rows and lend no
-//! whole row, so that they stand as they were.
+//! whole row, so that they stand as they were. Where request 8 was not, the case is for no release.
 
 use host::json::{self, Value};
 use host::second::{self, ReadAnswer, RenderAnswer, ResolveAnswer, DEFINITION_ROW_WIDTH};
 
 const FILE: &str = include_str!("data/requests.json");
 /// The requests that are in force.
-const IN_FORCE: [usize; 4] = [1, 2, 4, 9];
+const IN_FORCE: [usize; 5] = [1, 2, 4, 8, 9];
 /// The request that gave definition rows their leading number.
 const SHEET: f64 = 1.0;
+/// The request that gave the setting.
+const RELEASE: f64 = 8.0;
 
-/// A case: the two texts, and what is wanted.
+/// A case: the two texts, the setting, and what is wanted.
 struct Case {
     name: String,
     note: Vec<u8>,
     sheet: Vec<u8>,
+    release: bool,
     wanted: Wanted,
 }
 
@@ -48,8 +51,8 @@ fn case(value: &Value) -> Case {
     let in_force: Vec<f64> = in_force.flatten().collect();
     let known = |request: &f64| IN_FORCE.contains(&(*request as usize));
     assert!(in_force.iter().all(known), "{value:?}");
-    // What a later request adds: a setting.
-    assert_ne!(value.get("release"), Some(&Value::Bool(true)), "{value:?}");
+    let release = value.get("release") == Some(&Value::Bool(true));
+    assert!(in_force.contains(&RELEASE) || !release, "{value:?}");
     let before_sheets = !in_force.contains(&SHEET);
     let expect = value.get("expect").expect("what is wanted");
     let tables = || tables(value, before_sheets);
@@ -57,6 +60,7 @@ fn case(value: &Value) -> Case {
         name: string(value, "id") + " " + string(value, "what").as_str(),
         note: bytes(value, "note_hex"),
         sheet: bytes(value, "sheet_hex"),
+        release,
         wanted: match string(value, "entry").as_str() {
             "read" => Wanted::Read(tables(), wanted_reading(expect, before_sheets)),
             "page" => {
@@ -101,7 +105,7 @@ fn wanted_reading(expect: &Value, before_sheets: bool) -> ReadAnswer {
         span_count: count(expect, "spans"),
         text: number(expect, "text"),
         definition_rows: changed(&[1, 2, 3]).then(definition_rows),
-        span_rows: changed(&[1, 2, 3, 4, 5]).then(|| rows(expect, "span_rows")),
+        span_rows: changed(&[1, 2, 3, 4, 5, 9]).then(|| rows(expect, "span_rows")),
     }
 }
 
@@ -185,13 +189,14 @@ impl Case {
         let Case {
             name, note, sheet, ..
         } = self;
+        let release = self.release;
         match &self.wanted {
             Wanted::Read(lent, wanted) => {
                 let Tables {
                     definition_numbers,
                     span_numbers,
                 } = *lent;
-                let answer = second::read(note, sheet, definition_numbers, span_numbers);
+                let answer = second::read(note, sheet, release, definition_numbers, span_numbers);
                 assert_eq!(answer, *wanted, "{name}");
             }
             Wanted::Page(lent, bytes, wanted) => {
@@ -199,7 +204,14 @@ impl Case {
                     definition_numbers,
                     span_numbers,
                 } = *lent;
-                let answer = second::render(note, sheet, definition_numbers, span_numbers, *bytes);
+                let answer = second::render(
+                    note,
+                    sheet,
+                    release,
+                    definition_numbers,
+                    span_numbers,
+                    *bytes,
+                );
                 assert_eq!(answer, *wanted, "{name}");
             }
             Wanted::Enquiry(label, wanted, part) => {
@@ -217,11 +229,16 @@ fn answers_as_wanted() {
     let cases = cases();
     cases.iter().for_each(Case::check);
     let count = |of: fn(&Wanted) -> bool| cases.iter().filter(|case| of(&case.wanted)).count();
-    // Of request 4: 5 pages. Of request 9: 12 and 28. Of request 1: 19, 43 and 54 enquiries.
-    assert_eq!(count(|wanted| matches!(wanted, Wanted::Read(..))), 12 + 19);
+    // Of request 4: 5 pages. Of request 9: 12 and 28. Of request 1: 19, 43 and 54 enquiries. Of request 8:
+    // 16 and 44, of which 38 are for a release.
+    assert_eq!(
+        count(|wanted| matches!(wanted, Wanted::Read(..))),
+        12 + 19 + 16
+    );
     assert_eq!(
         count(|wanted| matches!(wanted, Wanted::Page(..))),
-        5 + 28 + 43
+        5 + 28 + 43 + 44
     );
     assert_eq!(count(|wanted| matches!(wanted, Wanted::Enquiry(..))), 54);
+    assert_eq!(cases.iter().filter(|case| case.release).count(), 38);
 }

@@ -48,6 +48,18 @@ fn refusals() {
     );
 }
 
+#[test]
+fn for_a_release() {
+    let note = b"[a]: b\n[a]: c\n";
+    let rows_of_both = "definition 0 1 2 5 6 0 0 1\ndefinition 0 8 9 12 13 0 0 2\n";
+    let refused = (format!("{rows_of_both}refusal 9 2 0\n"), Some(1));
+    assert_eq!(rows(&["--release"], note), refused);
+    assert_eq!(rows(&["--page", "--release"], note), refused);
+    let read = (format!("{rows_of_both}page \"\"\n"), Some(0));
+    assert_eq!(rows(&[], note), read);
+    assert_eq!(rows(&["--release"], NOTE), rows(&[], NOTE));
+}
+
 /// The whole example in a file.
 const FILE: &str = concat!(env!("CARGO_MANIFEST_DIR"), "/tests/data/max.md");
 

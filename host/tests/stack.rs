@@ -77,31 +77,32 @@ fn taken(mut call: impl FnMut()) -> usize {
     depth(&mut call, true) - without
 }
 
-/// The notes of the benchmark beside their own sheets, and each as its own sheet.
-fn texts() -> Vec<(Vec<u8>, Vec<u8>)> {
+/// The notes of the benchmark beside their own sheets, and each as its own sheet; for a release and for none.
+fn texts() -> Vec<(Vec<u8>, Vec<u8>, bool)> {
     let notes = bench_notes::all().into_iter();
-    notes
-        .flat_map(|note| {
-            let twice = (note.bytes.clone(), note.bytes.clone());
-            [(note.bytes, note.sheet), twice]
-        })
+    let texts = notes.flat_map(|note| {
+        let twice = (note.bytes.clone(), note.bytes.clone());
+        [(note.bytes, note.sheet), twice]
+    });
+    texts
+        .flat_map(|(note, sheet)| [(note.clone(), sheet.clone(), false), (note, sheet, true)])
         .collect()
 }
 
 #[test]
 fn a_call_keeps_to_the_promised_stack() {
     let rows = LONGEST_NOTE / 3 + 1;
-    let mut definitions = vec![0; 2 * rows * DEFINITION_ROW_WIDTH];
+    let mut defined = vec![0; 2 * rows * DEFINITION_ROW_WIDTH];
     let mut spans = vec![0; rows * SPAN_ROW_WIDTH];
     let mut page = vec![0; 1 << 20];
     let mut most = [0; 4];
-    for (note, sheet) in texts() {
+    for (note, sheet, release) in texts() {
         let calls = [
             taken(|| {
-                entries::read(&note, &sheet, &mut definitions, &mut spans);
+                entries::read(&note, &sheet, release, &mut defined, &mut spans);
             }),
             taken(|| {
-                entries::render(&note, &sheet, &mut definitions, &mut spans, &mut page);
+                entries::render(&note, &sheet, release, &mut defined, &mut spans, &mut page);
             }),
             taken(|| {
                 entries::resolve(&note, &sheet, b"limit 499");

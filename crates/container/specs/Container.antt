@@ -1,7 +1,7 @@
--- What a header line of the container says: six numbers of six digits.
+-- What a header line of the container says: six numbers of six digits, and a setting.
 use Prim.Native.Nat.{ℕ, _+_, _-_, _*_, _≤_}
 use mathlib.Core.Path.{_≡_}
-use mathlib.Core.Bool.{Bool, cond, _&&_}
+use mathlib.Core.Bool.{Bool, cond, _&&_, _||_}
 use mathlib.Core.List.{List}
 use lib.ListN.{length, take, drop, getD}
 use lib.Dec.{eqb, ltb}
@@ -29,24 +29,31 @@ numberFrom = scan digitStep number.Of
 abbrev pub field : List ℕ → ℕ → Number
 field line at = numberFrom (take 6 (drop at line)) 0
 
--- 42 bytes with five spaces and a line end among them
+-- `0` or `1`
+abbrev pub setting : ℕ → Bool
+setting b = eqb b 48 || eqb b 49
+
+-- 44 bytes with six spaces, a setting and a line end among them
 abbrev pub ruled : List ℕ → Bool
-ruled line = (((((eqb (length line) 42 && eqb (getD line 6 0) 32) && eqb (getD line 13 0) 32) && eqb (getD line 20 0) 32) && eqb (getD line 27 0) 32) && eqb (getD line 34 0) 32) && eqb (getD line 41 0) 10
+ruled line =
+    (((((((eqb (length line) 44 && eqb (getD line 6 0) 32) && eqb (getD line 13 0) 32) && eqb (getD line 20 0) 32) && eqb (getD line 27 0) 32) && eqb (getD line 34 0) 32) && eqb (getD line 41 0) 32) && setting (getD line 42 0))
+    && eqb (getD line 43 0) 10
 
-abbrev pub sizes : ℕ → ℕ → ℕ → ℕ → ℕ → ℕ → Sizes
-sizes d n p k h l = record { definitions = d; spans = n; page = p; note = k; sheet = h; label = l }
+abbrev pub sizes : ℕ → ℕ → ℕ → ℕ → ℕ → ℕ → Bool → Sizes
+sizes d n p k h l r = record { definitions = d; spans = n; page = p; note = k; sheet = h; label = l; release = r }
 
-abbrev pub headerOf : Number → Number → Number → Number → Number → Number → Header
-headerOf (number.Of d) (number.Of n) (number.Of p) (number.Of k) (number.Of h) (number.Of l) = header.Case (sizes d n p k h l)
-headerOf number.Bad n p k h l = header.Bad
-headerOf (number.Of d) number.Bad p k h l = header.Bad
-headerOf (number.Of d) (number.Of n) number.Bad k h l = header.Bad
-headerOf (number.Of d) (number.Of n) (number.Of p) number.Bad h l = header.Bad
-headerOf (number.Of d) (number.Of n) (number.Of p) (number.Of k) number.Bad l = header.Bad
-headerOf (number.Of d) (number.Of n) (number.Of p) (number.Of k) (number.Of h) number.Bad = header.Bad
+abbrev pub headerOf : Number → Number → Number → Number → Number → Number → Bool → Header
+headerOf (number.Of d) (number.Of n) (number.Of p) (number.Of k) (number.Of h) (number.Of l) r = header.Case (sizes d n p k h l r)
+headerOf number.Bad n p k h l r = header.Bad
+headerOf (number.Of d) number.Bad p k h l r = header.Bad
+headerOf (number.Of d) (number.Of n) number.Bad k h l r = header.Bad
+headerOf (number.Of d) (number.Of n) (number.Of p) number.Bad h l r = header.Bad
+headerOf (number.Of d) (number.Of n) (number.Of p) (number.Of k) number.Bad l r = header.Bad
+headerOf (number.Of d) (number.Of n) (number.Of p) (number.Of k) (number.Of h) number.Bad r = header.Bad
 
 abbrev pub lineOf : List ℕ → Header
-lineOf line = cond (ruled line) (headerOf (field line 0) (field line 7) (field line 14) (field line 21) (field line 28) (field line 35)) header.Bad
+lineOf line =
+    cond (ruled line) (headerOf (field line 0) (field line 7) (field line 14) (field line 21) (field line 28) (field line 35) (eqb (getD line 42 0) 49)) header.Bad
 
 -- ---- what a case can be
 -- the program has so much to lend

@@ -1,15 +1,16 @@
 // The cases that the program is run on, one after the other: a header line, and the bytes of the note, of the sheet and of the label, each
-// with a line end. The header line is six decimal numbers of six digits with a space between them: how many numbers are lent to the
-// definition table, how many to the span table, how many bytes to the page, how many bytes the note has, how many the sheet, and how many
-// the label.
+// with a line end. The header line is six decimal numbers of six digits and one digit, with a space between them: how many numbers are lent
+// to the definition table, how many to the span table, how many bytes to the page, how many bytes the note has, how many the sheet, how
+// many the label; and the release setting, 0 no, 1 yes.
 
 ghost use mathlib.Core.Path.{_≡_};
-ghost use Rattle.container.specs.Container.{numberFrom, ruled, headerOf, lineOf};
+ghost use Rattle.container.specs.Container.{numberFrom, setting, ruled, headerOf, lineOf};
 
 // The length of a header line with its line end.
-pub const HEADER: usize = 42;
+pub const HEADER: usize = 44;
 
-// The numbers lent to each table, the bytes lent to the page, and the lengths of the note, the sheet and the label.
+// The numbers lent to each table, the bytes lent to the page, the lengths of the note, the sheet and the label, and whether they are for a
+// release.
 pub struct Sizes {
     pub definitions: usize,
     pub spans: usize,
@@ -17,6 +18,7 @@ pub struct Sizes {
     pub note: usize,
     pub sheet: usize,
     pub label: usize,
+    pub release: bool,
 }
 
 // A decimal number, or bytes that are none.
@@ -31,7 +33,14 @@ pub enum Header {
     Bad,
 }
 
-// Whether the line has a header's length, five spaces and a line end.
+// `0` or `1`.
+fn is_setting(b: u8) -> bool
+    ensures { λ r. ⌜ r ≡ setting b ⌝ }
+{
+    (b == b'0') | (b == b'1')
+}
+
+// Whether the line has a header's length, six spaces, a setting and a line end.
 fn is_ruled(line: &[u8]) -> bool
     ensures { λ r. ⌜ r ≡ ruled (now (line .entry)) ⌝ }
 {
@@ -41,10 +50,12 @@ fn is_ruled(line: &[u8]) -> bool
         & (scan::peek(line, 20) == 32)
         & (scan::peek(line, 27) == 32)
         & (scan::peek(line, 34) == 32)
-        & (scan::peek(line, 41) == 10)
+        & (scan::peek(line, 41) == 32)
+        & is_setting(scan::peek(line, 42))
+        & (scan::peek(line, 43) == 10)
 }
 
-// The header with these numbers.
+// The header with these numbers and this setting.
 fn header_with(
     definitions: Number,
     spans: Number,
@@ -52,8 +63,9 @@ fn header_with(
     note: Number,
     sheet: Number,
     label: Number,
+    release: bool,
 ) -> Header
-    ensures { λ r. ⌜ r ≡ headerOf definitions spans page note sheet label ⌝ }
+    ensures { λ r. ⌜ r ≡ headerOf definitions spans page note sheet label release ⌝ }
 {
     let Number::Of(definitions) = definitions else {
         return Header::Bad;
@@ -80,6 +92,7 @@ fn header_with(
         note,
         sheet,
         label,
+        release,
     })
 }
 
@@ -94,7 +107,8 @@ pub fn read_header(line: &[u8]) -> Header
         let note = read_number(&line[21..27]);
         let sheet = read_number(&line[28..34]);
         let label = read_number(&line[35..41]);
-        return header_with(definitions, spans, page, note, sheet, label);
+        let release = scan::peek(line, 42) == b'1';
+        return header_with(definitions, spans, page, note, sheet, label, release);
     }
     Header::Bad
 }

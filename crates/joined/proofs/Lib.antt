@@ -1,3 +1,4 @@
 pub mod Joined
 pub mod Places
 pub mod Few
+pub mod Listing

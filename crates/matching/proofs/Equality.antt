@@ -93,7 +93,7 @@ pub one-form : (l c d : List ℕ) → Compared l c → Compared l d → c ≡ d
 one-form l c d p q = sym (compared-iff l c .0 p) ∙ compared-iff l d .0 q
 
 -- ---- `matches` answers whether the compared forms are one
-equals-to : (x y : List ℕ) → equals x y ≡ true → x ≡ y
+pub equals-to : (x y : List ℕ) → equals x y ≡ true → x ≡ y
 unfolding equals
 equals-to [] [] e = refl
 equals-to [] (b ∷ y) e = absurd (true≢false (sym e))
@@ -101,7 +101,7 @@ equals-to (a ∷ x) [] e = absurd (true≢false (sym e))
 equals-to (a ∷ x) (b ∷ y) e =
     ap₂ (λ (h : ℕ) (l : List ℕ). h ∷ l) (eqb-true a b (and-left _ (equals x y) e)) (equals-to x y (and-right (eqb a b) _ e))
 
-equals-refl : (x : List ℕ) → equals x x ≡ true
+pub equals-refl : (x : List ℕ) → equals x x ≡ true
 unfolding equals
 equals-refl [] = refl
 equals-refl (a ∷ x) = simp (eq-eqb a a refl, equals-refl x)

@@ -3,8 +3,7 @@ pub mod Answers
 pub mod Demand1
 pub mod Tables
 pub mod Promise
-pub mod Filling
-pub mod Turns
 pub mod Returns
 pub mod Standing
 pub mod Samples
+pub mod Given

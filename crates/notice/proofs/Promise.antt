@@ -2,6 +2,7 @@
 use Prim.Native.Nat.{ℕ}
 use mathlib.Core.Path.{_≡_, sym, ap, _∙_, subst}
 use mathlib.Core.List.{List}
+use mathlib.Core.Bool.{Bool}
 use Rattle.texts.specs.Texts.{Texts}
 use Rattle.row.specs.Row as definitionTable
 use Rattle.span.specs.Row as spanTable
@@ -14,19 +15,19 @@ use Rattle.notice.proofs.Answers.{the-answer}
 use Rattle.notice.proofs.Demand1 as answers
 use Rattle.notice.proofs.Tables.{tables-after}
 
-module _ {T : Texts} {t u : List ℕ} {r : Reading} {T′ : Texts} {t′ u′ : List ℕ} (p : Promise T t u r T′ t′ u′) where
-  pub demand-1 : Demand1 T (definitionTable.wholeRows t) (spanTable.wholeRows u) r
-  demand-1 = subst (Demand1 T (definitionTable.wholeRows t) (spanTable.wholeRows u)) (sym (p .answer)) (answers.demand-1 T (definitionTable.wholeRows t) (spanTable.wholeRows u))
+module _ {release : Bool} {T : Texts} {t u : List ℕ} {r : Reading} {T′ : Texts} {t′ u′ : List ℕ} (p : Promise release T t u r T′ t′ u′) where
+  pub demand-1 : Demand1 release T (definitionTable.wholeRows t) (spanTable.wholeRows u) r
+  demand-1 = subst (Demand1 release T (definitionTable.wholeRows t) (spanTable.wholeRows u)) (sym (p .answer)) (answers.demand-1 release T (definitionTable.wholeRows t) (spanTable.wholeRows u))
 
   -- demands 2 and 3, and what is left unchanged
   pub tables-hold : Tables T t u r t′ u′
   tables-hold =
       let d = definitionTable.wholeRows t in
       let n = spanTable.wholeRows u in
-      tables-after T t u r (subst (Answers T d n) (sym (p .answer)) (the-answer T d n)) (p .definitions) (p .spans)
+      tables-after T release t u r (subst (Answers release T d n) (sym (p .answer)) (the-answer release T d n)) (p .definitions) (p .spans)
 
   -- "for each input the promise equates what the call gives .. with a definition"
-  pub one-answer : {r₂ : Reading} {T₂ : Texts} {t₂ u₂ : List ℕ} → Promise T t u r₂ T₂ t₂ u₂ → Same r t′ u′ r₂ t₂ u₂
+  pub one-answer : {r₂ : Reading} {T₂ : Texts} {t₂ u₂ : List ℕ} → Promise release T t u r₂ T₂ t₂ u₂ → Same r t′ u′ r₂ t₂ u₂
   one-answer q =
       let e : r ≡ _ = p .answer ∙ sym (q .answer) in
       record {

@@ -1,14 +1,16 @@
 -- What the reader has done at each return, and that it keeps the promise. A part that was lent empty comes back empty, before the table itself.
-use Prim.Native.Nat.{ℕ, _≤_, _<_, _^_}
+use Prim.Native.Nat.{ℕ, _+_, _≤_, _<_, _^_}
 use native.Mathlib.Omega.{arith}
 use mathlib.Core.Path.{_≡_, refl, sym, ap, _∙_}
 use mathlib.Core.Option.{Option, none, some}
 use mathlib.Core.List.{List, [], _∷_, _++_}
-use mathlib.Core.Bool.{false}
+use mathlib.Core.Bool.{Bool, true, false}
 use borrow.Author.Tests.{lt-ltb, le-ltb}
 use lib.ListN.{length}
 use lib.Dec.{ltb}
 use Rattle.scan.specs.Byte.{within}
+use Rattle.scan.specs.declared.Found.{Found}
+use Rattle.scan.specs.declared.Found.the-variants.{At, Nothing}
 use Rattle.scan.proofs.Test.{by}
 use Rattle.texts.specs.declared.Checked.{Checked}
 use Rattle.texts.specs.declared.Checked.the-variants as texts
@@ -19,7 +21,9 @@ use Rattle.texts.proofs.Refusals.{good-texts}
 use Rattle.rows.proofs.Filled as rows
 use Rattle.row.specs.Row as definitionTable
 use Rattle.row.proofs.Filled.{filled-empty, filled-still, entries-back}
-use Rattle.joined.specs.Reading.{joined}
+use Rattle.joined.specs.Reading.{joined, Listing}
+use Rattle.conflict.specs.Reading.{firstConflict}
+use Rattle.conflict.proofs.Conflicts.{first-conflict-iff}
 use Rattle.table.proofs.Lookup.{table-fit}
 use Rattle.span.specs.Row as spanTable
 use Rattle.note.specs.Reading.{spanRows, firstDeep}
@@ -27,14 +31,15 @@ use Rattle.step.specs.declared.Walk.{Walk}
 use Rattle.paragraph.specs.declared.Tally.{Tally}
 use Rattle.paragraph.specs.declared.Tally.the-variants as tallies
 use Rattle.paragraph.specs.Tally as tally
+use Rattle.paragraphs.specs.Spans.{spansFilled, Defined, NoteMarked}
+use Rattle.paragraphs.proofs.Turns.{was-spans, was-deep}
 use Rattle.notice.specs.declared.Reading.{Reading}
-use Rattle.notice.specs.declared.Reading.the-variants.{Read, Long, Bad, FewDefinitions, Deep, FewSpans}
+use Rattle.notice.specs.declared.Reading.the-variants.{Read, Long, Bad, FewDefinitions, Conflicting, Deep, FewSpans}
 use Rattle.notice.specs.Answers.{numberOf, valueOf, namedOf, definitionCount, spanCount}
-use Rattle.notice.specs.Reading.{withSpans, spansFilled, definitionTableOf, spanTableOf}
+use Rattle.notice.specs.Reading.{withSpans, withConflicts, definitionTableOf, spanTableOf}
 use Rattle.notice.specs.Promise.{answerTo, Promise}
-use Rattle.notice.specs.Spans.{Defined, NoteMarked, SpansRead}
-use Rattle.notice.proofs.Order.{by-check, too-few-definitions, enough-definitions}
-use Rattle.notice.proofs.Turns.{was-spans, was-deep}
+use Rattle.notice.specs.Spans.{SpansRead, JoinedRead}
+use Rattle.notice.proofs.Order.{Silent, passed, by-check, too-few-definitions, enough-definitions}
 
 no-part : (part t : List ℕ) → length part ≡ 0 → part ++ t ≡ t
 no-part [] t e = refl
@@ -81,9 +86,28 @@ module _ (T : Texts) (count : ℕ) {part : List ℕ} {r : Tally} (m : NoteMarked
           let y : n ≤ spanTable.wholeRows u = omega (arith, rows-lent) in
           record { answer = rw (never, count-is, le-ltb (spanTable.wholeRows u) n y) refl; spans = z .table (ap tally.numberOf (z .answer) ∙ rw never refl) ∙ ap (spansFilled (spanRows T)) back }
 
+-- ---- conflicts
+-- the table holds the joined list
+pub listing : {T : Texts} {t : List ℕ} {count : ℕ} → Defined T t count → Listing T t
+listing d = record { room = omega (arith, d .fit .room, d .counted); rows-are = rw (← d .counted) (d .rows-are) }
+
+-- the row number is within the count
+pub conflict-within : (T : Texts) {f : Found} {k count : ℕ} → f ≡ firstConflict T → f ≡ At k → count ≡ length (joined T) → k < count
+conflict-within T {k} e g c =
+    let w = first-conflict-iff T k .0 (sym e ∙ g) in
+    omega (arith, w .numbered, w .conflict .within, c)
+
+module _ {release : Bool} {T : Texts} {count : ℕ} {u : List ℕ} where
+  pub stopped : {f : Found} {k : ℕ} → release ≡ true → f ≡ firstConflict T → f ≡ At k → JoinedRead release T count u (Conflicting (k + 1)) u
+  stopped y e g = record { answer = rw (y, ← e, g) refl; spans = refl }
+
+  pub goes-on : {r : Reading} {u′ : List ℕ} → Silent release (firstConflict T) → SpansRead T count u r u′ → JoinedRead release T count u r u′
+  goes-on s m = record { answer = m .answer ∙ sym (passed release (firstConflict T) _ s); spans = m .spans }
+
 -- ---- the whole note
 -- the answer tells its number, its value and the counts
-pub kept : {T : Texts} {t u : List ℕ} {r : Reading} {t′ u′ : List ℕ} → r ≡ answerTo T t u → t′ ≡ definitionTableOf T (numberOf r) t → u′ ≡ spanTableOf T (numberOf r) u → Promise T t u r T t′ u′
+pub kept : {release : Bool} {T : Texts} {t u : List ℕ} {r : Reading} {t′ u′ : List ℕ} → r ≡ answerTo release T t u → t′ ≡ definitionTableOf T (numberOf r) t → u′ ≡ spanTableOf T (numberOf r) u
+    → Promise release T t u r T t′ u′
 kept e d n =
     record {
       answer = e;
@@ -104,11 +128,11 @@ module _ (T : Texts) (t u : List ℕ) {c : Checked} (ec : c ≡ checkOf T) where
   abbrev lent′ : ℕ
   lent′ = spanTable.wholeRows u
 
-  pub too-long : {x n : ℕ} → c ≡ texts.Long x n → Promise T t u (Long x n) T t u
-  too-long {x} {n} e = kept (sym (by-check T lent lent′ (texts.Long x n) (sym ec ∙ e))) refl refl
+  pub too-long : {release : Bool} {x n : ℕ} → c ≡ texts.Long x n → Promise release T t u (Long x n) T t u
+  too-long {release} {x} {n} e = kept (sym (by-check release T lent lent′ (texts.Long x n) (sym ec ∙ e))) refl refl
 
-  pub not-good : {x k : ℕ} → c ≡ texts.Bad x k → Promise T t u (Bad x k) T t u
-  not-good {x} {k} e = kept (sym (by-check T lent lent′ (texts.Bad x k) (sym ec ∙ e))) refl refl
+  pub not-good : {release : Bool} {x k : ℕ} → c ≡ texts.Bad x k → Promise release T t u (Bad x k) T t u
+  not-good {release} {x} {k} e = kept (sym (by-check release T lent lent′ (texts.Bad x k) (sym ec ∙ e))) refl refl
 
 module _ (T : Texts) {c : Checked} (ec : c ≡ checkOf T) (e : c ≡ texts.Good) where
   good : GoodTexts T
@@ -120,10 +144,15 @@ module _ (T : Texts) {c : Checked} (ec : c ≡ checkOf T) (e : c ≡ texts.Good)
   pub short-sheet : length (T .sheet) < 2 ^ 32
   short-sheet = omega (arith, good .sheet .short)
 
--- refusals 4 and 5 and success leave the rows of the definitions
-rows-there : (d : ℕ) (o : Option ℕ) (n k : ℕ) → within 1 3 (numberOf (withSpans d o n k)) ≡ false
-rows-there d (some place) n k = refl
-rows-there d none n k = by (ltb k n) (λ e. rw e refl) (λ e. rw e refl)
+-- refusals 9, 4 and 5 and success leave the rows of the definitions
+spans-there : (d : ℕ) (o : Option ℕ) (n k : ℕ) → within 1 3 (numberOf (withSpans d o n k)) ≡ false
+spans-there d (some place) n k = refl
+spans-there d none n k = by (ltb k n) (λ e. rw e refl) (λ e. rw e refl)
+
+rows-there : (release : Bool) (f : Found) (d : ℕ) (o : Option ℕ) (n k : ℕ) → within 1 3 (numberOf (withConflicts release f d o n k)) ≡ false
+rows-there true (At i) d o n k = refl
+rows-there true Nothing d o n k = spans-there d o n k
+rows-there false f d o n k = spans-there d o n k
 
 -- the definitions are counted, and nothing is stored
 module _ (T : Texts) (t u : List ℕ) {c : Checked} (ec : c ≡ checkOf T) (good : c ≡ texts.Good)
@@ -138,12 +167,12 @@ module _ (T : Texts) (t u : List ℕ) {c : Checked} (ec : c ≡ checkOf T) (good
   abbrev spans : ℕ
   spans = spanTable.wholeRows u
 
-  pub too-few : n < count → Promise T t u (FewDefinitions count) T (part ++ t) u
-  too-few h =
+  pub too-few : {release : Bool} → n < count → Promise release T t u (FewDefinitions count) T (part ++ t) u
+  too-few {release} h =
       let z : definitionTable.wholeRows t < length (joined T) = omega (arith, whole-rows, en) in
       kept
       (ap FewDefinitions en
-      ∙ sym (by-check T (definitionTable.wholeRows t) spans texts.Good (sym ec ∙ good) ∙ too-few-definitions (length (joined T)) (firstDeep T) (length (spanRows T)) (definitionTable.wholeRows t) spans z))
+      ∙ sym (by-check release T (definitionTable.wholeRows t) spans texts.Good (sym ec ∙ good) ∙ too-few-definitions release (firstConflict T) (length (joined T)) (firstDeep T) (length (spanRows T)) (definitionTable.wholeRows t) spans z))
       same refl
 
   module _ (h : count ≤ n) {t′ : List ℕ} (et : t′ ≡ definitionTable.filled T (joined T) (part ++ t)) where
@@ -162,13 +191,13 @@ module _ (T : Texts) (t u : List ℕ) {c : Checked} (ec : c ≡ checkOf T) (good
       rows-are = rw (table, en) (entries-back T (joined T) t enough);
     }
 
-    pub all-read : {r : Reading} {u′ : List ℕ} → SpansRead T count u r u′ → Promise T t u r T t′ u′
-    all-read {r} m =
-        let e : r ≡ withSpans (length (joined T)) (firstDeep T) (length (spanRows T)) spans = m .answer ∙ rw en refl in
+    pub all-read : {release : Bool} {r : Reading} {u′ : List ℕ} → JoinedRead release T count u r u′ → Promise release T t u r T t′ u′
+    all-read {release} {r} m =
+        let e : r ≡ withConflicts release (firstConflict T) (length (joined T)) (firstDeep T) (length (spanRows T)) spans = m .answer ∙ rw en refl in
         kept
         (e
-        ∙ sym (by-check T (definitionTable.wholeRows t) spans texts.Good (sym ec ∙ good) ∙ enough-definitions (length (joined T)) (firstDeep T) (length (spanRows T)) (definitionTable.wholeRows t) spans enough))
-        (table ∙ rw (e, rows-there (length (joined T)) (firstDeep T) (length (spanRows T)) spans) refl) (m .spans)
+        ∙ sym (by-check release T (definitionTable.wholeRows t) spans texts.Good (sym ec ∙ good) ∙ enough-definitions release (firstConflict T) (length (joined T)) (firstDeep T) (length (spanRows T)) (definitionTable.wholeRows t) spans enough))
+        (table ∙ rw (e, rows-there release (firstConflict T) (length (joined T)) (firstDeep T) (length (spanRows T)) spans) refl) (m .spans)
 
   -- where there are none, the table is the one that was lent
   module _ (h : count ≤ n) (z : count ≡ 0) where
@@ -178,5 +207,5 @@ module _ (T : Texts) (t u : List ℕ) {c : Checked} (ec : c ≡ checkOf T) (good
     pub none-defined : Defined T (part ++ t) count
     none-defined = defined h still
 
-    pub none-read : {r : Reading} {u′ : List ℕ} → SpansRead T count u r u′ → Promise T t u r T (part ++ t) u′
+    pub none-read : {release : Bool} {r : Reading} {u′ : List ℕ} → JoinedRead release T count u r u′ → Promise release T t u r T (part ++ t) u′
     none-read = all-read h still

@@ -3,6 +3,7 @@ use Prim.Native.Nat.{ℕ}
 use mathlib.Core.Path.{_≡_, refl, ap, _∙_}
 use mathlib.Core.Option.{Option, none, some}
 use mathlib.Core.List.{List, [], _∷_}
+use mathlib.Core.Bool.{false}
 use lib.ListN.{length}
 use Rattle.scan.specs.Ascii.{ascii}
 use Rattle.line.specs.Line.{feeds, lineOf}
@@ -16,6 +17,7 @@ use Rattle.row.specs.Row.{Listed}
 use Rattle.row.specs.First.{labelsOf}
 use Rattle.span.specs.Row as spanTable
 use Rattle.joined.specs.Reading.{joined}
+use Rattle.conflict.specs.Reading.{firstConflict}
 use Rattle.note.specs.Reading.{labels, spanRows, placeOr, deepIn, firstDeep}
 use Rattle.note.specs.Samples.{brackets, openings, alone, partsOf, holds}
 use Rattle.note.proofs.Openings.{deep-openings}
@@ -23,15 +25,16 @@ use Rattle.note.proofs.Samples as note
 use Rattle.notice.specs.declared.Reading.{Reading}
 use Rattle.notice.specs.declared.Reading.the-variants.{Read, Deep}
 use Rattle.notice.specs.Answers.{numberOf}
-use Rattle.notice.specs.Reading.{withDefinitions, readingOf, spansFilled, definitionTableOf, spanTableOf}
+use Rattle.paragraphs.specs.Spans.{spansFilled}
+use Rattle.notice.specs.Reading.{withDefinitions, readingOf, definitionTableOf, spanTableOf}
 use Rattle.notice.specs.Samples.{beside, sample, lent, readOne, deep, edges, Hold, samples-hold}
 
 answer-by : (T : Texts) (a b d n : ℕ) (f : Option ℕ) → checkOf T ≡ Good → length (joined T) ≡ d → firstDeep T ≡ f → length (spanRows T) ≡ n
-    → readingOf T a b ≡ withDefinitions d f n a b
+    → readingOf false T a b ≡ withDefinitions false (firstConflict T) d f n a b
 unfolding readingOf
 answer-by T a b d n f good ed ef en = rw (good, ed, ef, en)
 
-sample-by : (T : Texts) (t u t′ u′ : List ℕ) (r : Reading) → readingOf T (definitionTable.wholeRows t) (spanTable.wholeRows u) ≡ r → definitionTableOf T (numberOf r) t ≡ t′
+sample-by : (T : Texts) (t u t′ u′ : List ℕ) (r : Reading) → readingOf false T (definitionTable.wholeRows t) (spanTable.wholeRows u) ≡ r → definitionTableOf T (numberOf r) t ≡ t′
     → spanTableOf T (numberOf r) u ≡ u′ → readOne (beside T t u r t′ u′) ≡ beside T t u r t′ u′
 sample-by T t u t′ u′ r er et eu = rw (er, et, eu)
 

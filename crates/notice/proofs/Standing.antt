@@ -11,7 +11,8 @@ use Rattle.note.specs.Reading.{spanRows}
 use Rattle.note.proofs.EachRow.{each-row-iff}
 use Rattle.note.proofs.Placing.{at-getD}
 use Rattle.note.proofs.Fits.{rows-fit}
-use Rattle.notice.specs.Claims.{spanNumbers, SpanRows}
+use Rattle.paragraphs.specs.Spans.{spanNumbers}
+use Rattle.notice.specs.Claims.{SpanRows}
 
 -- row k of the table is the note's span row k
 pub rows-stand : (T : Texts) (u : List ℕ) {u′ : List ℕ} → SpanRows T u u′ → (k : ℕ) → k < length (spanRows T) → getElem? (spanRows T) k ≡ some (rowAt u′ k)

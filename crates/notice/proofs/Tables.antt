@@ -4,6 +4,7 @@ use native.Mathlib.Nat.{suc-mul}
 use native.Mathlib.Omega.{arith}
 use mathlib.Core.Path.{_≡_, refl, sym, ap, _∙_}
 use mathlib.Core.List.{List, [], _∷_, _++_}
+use mathlib.Core.Bool.{Bool}
 use lib.ListN.{length, drop, length-append, length-drop}
 use lib.Seq.{take-all}
 use Rattle.scan.specs.Member.{In}
@@ -22,9 +23,10 @@ use Rattle.note.proofs.EachRow.{each-row-iff}
 use Rattle.note.proofs.Fits as fitting
 use Rattle.note.proofs.References.{references-refer}
 use Rattle.notice.specs.declared.Reading.{Reading}
-use Rattle.notice.specs.Answers.{numberOf, DefinitionsCounted, SpansCounted, Enough, Answers, long, bad, few-definitions, deep, few-spans, read}
-use Rattle.notice.specs.Reading.{spansFilled, definitionTableOf, spanTableOf}
-use Rattle.notice.specs.Claims.{spanNumbers, DefinitionRows, SpanRows, Tables}
+use Rattle.notice.specs.Answers.{numberOf, DefinitionsCounted, SpansCounted, Enough, Answers, long, bad, few-definitions, conflicting, deep, few-spans, read}
+use Rattle.paragraphs.specs.Spans.{spanNumbers, spansFilled}
+use Rattle.notice.specs.Reading.{definitionTableOf, spanTableOf}
+use Rattle.notice.specs.Claims.{DefinitionRows, SpanRows, Tables}
 use Rattle.notice.proofs.Answers.{definition-count, span-count}
 
 -- ---- rows of eleven numbers
@@ -79,6 +81,7 @@ module _ (T : Texts) where
           spans-size = ap length q;
         }
 
+    -- and 9
     after-4-5 : 4 ≤ numberOf x → Enough (definitionTable.wholeRows t) (DefinitionsCounted T) → t′ ≡ definitionTable.filled T (joined T) t → u′ ≡ u → Tables T t u x t′ u′
     after-4-5 lo w p q =
         record {
@@ -100,11 +103,12 @@ module _ (T : Texts) where
           spans-size = size-of u (span-rows u v q);
         }
 
-  pub tables-after : (t u : List ℕ) {t′ u′ : List ℕ} (x : Reading) → Answers T (definitionTable.wholeRows t) (spanTable.wholeRows u) x
+  pub tables-after : (release : Bool) (t u : List ℕ) {t′ u′ : List ℕ} (x : Reading) → Answers release T (definitionTable.wholeRows t) (spanTable.wholeRows u) x
       → t′ ≡ definitionTableOf T (numberOf x) t → u′ ≡ spanTableOf T (numberOf x) u → Tables T t u x t′ u′
-  tables-after t u x (long w) p q = after-1-2-3 t u x (omega arith) (omega arith) p q
-  tables-after t u x (bad w f) p q = after-1-2-3 t u x (omega arith) (omega arith) p q
-  tables-after t u x (few-definitions w) p q = after-1-2-3 t u x (omega arith) (omega arith) p q
-  tables-after t u x (deep (g, w, d) f) p q = after-4-5 t u x (omega arith) w p q
-  tables-after t u x (few-spans (g, w, n, v)) p q = after-4-5 t u x (omega arith) w p q
-  tables-after t u x (read (g, w, n, v)) p q = after-0 t u x refl w v p q
+  tables-after release t u x (long w) p q = after-1-2-3 t u x (omega arith) (omega arith) p q
+  tables-after release t u x (bad w f) p q = after-1-2-3 t u x (omega arith) (omega arith) p q
+  tables-after release t u x (few-definitions w) p q = after-1-2-3 t u x (omega arith) (omega arith) p q
+  tables-after release t u x (conflicting (g, w, s) c) p q = after-4-5 t u x (omega arith) w p q
+  tables-after release t u x (deep (g, w, s, d) f) p q = after-4-5 t u x (omega arith) w p q
+  tables-after release t u x (few-spans (g, w, s, n, v)) p q = after-4-5 t u x (omega arith) w p q
+  tables-after release t u x (read (g, w, s, n, v)) p q = after-0 t u x refl w v p q

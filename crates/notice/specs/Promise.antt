@@ -2,6 +2,7 @@
 use Prim.Native.Nat.{ℕ}
 use mathlib.Core.Path.{_≡_}
 use mathlib.Core.List.{List}
+use mathlib.Core.Bool.{Bool}
 use Rattle.texts.specs.Texts.{Texts}
 use Rattle.row.specs.Row as definitionTable
 use Rattle.span.specs.Row as spanTable
@@ -9,18 +10,18 @@ use Rattle.notice.specs.declared.Reading.{Reading}
 use Rattle.notice.specs.Answers.{numberOf, valueOf, namedOf, definitionCount, spanCount}
 use Rattle.notice.specs.Reading.{readingOf, definitionTableOf, spanTableOf}
 
--- the answer where the tables t and u are lent
-abbrev pub answerTo : Texts → List ℕ → List ℕ → Reading
-answerTo T t u = readingOf T (definitionTable.wholeRows t) (spanTable.wholeRows u)
+-- the answer, for a release or not, where the tables t and u are lent
+abbrev pub answerTo : Bool → Texts → List ℕ → List ℕ → Reading
+answerTo release T t u = readingOf release T (definitionTable.wholeRows t) (spanTable.wholeRows u)
 
--- For the texts T, the definition table t and the span table u, the reader answers r and leaves T′, t′ and u′.
-pub record Promise (T : Texts) (t u : List ℕ) (r : Reading) (T′ : Texts) (t′ u′ : List ℕ) : Type 0 where
-  pub answer : r ≡ answerTo T t u
-  pub number : numberOf r ≡ numberOf (answerTo T t u)
-  pub value : valueOf r ≡ valueOf (answerTo T t u)
-  pub named : namedOf r ≡ namedOf (answerTo T t u)
-  pub definitions-counted : definitionCount r ≡ definitionCount (answerTo T t u)
-  pub spans-counted : spanCount r ≡ spanCount (answerTo T t u)
+-- For this setting, the texts T, the definition table t and the span table u, the reader answers r and leaves T′, t′ and u′.
+pub record Promise (release : Bool) (T : Texts) (t u : List ℕ) (r : Reading) (T′ : Texts) (t′ u′ : List ℕ) : Type 0 where
+  pub answer : r ≡ answerTo release T t u
+  pub number : numberOf r ≡ numberOf (answerTo release T t u)
+  pub value : valueOf r ≡ valueOf (answerTo release T t u)
+  pub named : namedOf r ≡ namedOf (answerTo release T t u)
+  pub definitions-counted : definitionCount r ≡ definitionCount (answerTo release T t u)
+  pub spans-counted : spanCount r ≡ spanCount (answerTo release T t u)
   pub definitions : t′ ≡ definitionTableOf T (numberOf r) t
   pub spans : u′ ≡ spanTableOf T (numberOf r) u
   pub texts : T′ ≡ T

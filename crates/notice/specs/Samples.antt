@@ -1,8 +1,9 @@
--- The reader's answers by computation, with what both tables hold before and after: the whole example of document 01, each refusal, and their order.
+-- The reader's answers by computation, with what both tables hold before and after: the whole example of document 01, each refusal, and their order, for a release or not.
 use Prim.Native.Nat.{ℕ}
 use mathlib.Core.Path.{_≡_, refl}
 use mathlib.Core.Option.{none}
 use mathlib.Core.List.{List, [], _∷_, _++_, map}
+use mathlib.Core.Bool.{Bool, true, false}
 use lib.ListN.{replicate}
 use Rattle.scan.specs.Ascii.{ascii}
 use Rattle.line.specs.Line.{feeds, lineOf}
@@ -31,14 +32,16 @@ use Rattle.inline.specs.Reading.{grammar}
 use Rattle.inline.specs.ReadingTails.{closedAt, afterDestination, inlineOf, labelAfter, textTail, tailOf}
 use Rattle.note.specs.Note.{depthLimit}
 use Rattle.joined.specs.Reading.{joined}
+use Rattle.conflict.specs.Reading.{differ, differsFrom, conflictFrom, firstConflict}
 use Rattle.note.specs.Samples.{brackets, openings, alone, partsOf}
 use Rattle.note.specs.Reading.{labels, rowsIn, spanRows, deepIn, firstDeep}
 use Rattle.notice.specs.declared.Reading.{Reading}
-use Rattle.notice.specs.declared.Reading.the-variants.{Read, Long, Bad, FewDefinitions, Deep, FewSpans}
+use Rattle.notice.specs.declared.Reading.the-variants.{Read, Long, Bad, FewDefinitions, Conflicting, Deep, FewSpans}
 use Rattle.notice.specs.Answers.{numberOf}
 use Rattle.notice.specs.Reading.{readingOf, definitionTableOf, spanTableOf}
 
 pub record Sample : Type 0 where
+  pub release : Bool
   pub texts : Texts
   -- the tables that are lent
   pub definitions-lent : List ℕ
@@ -48,8 +51,16 @@ pub record Sample : Type 0 where
   pub definitions-left : List ℕ
   pub spans-left : List ℕ
 
+abbrev pub given : Bool → Texts → List ℕ → List ℕ → Reading → List ℕ → List ℕ → Sample
+given release T t u r t′ u′ = record { release = release; texts = T; definitions-lent = t; spans-lent = u; answer = r; definitions-left = t′; spans-left = u′ }
+
+-- not for a release
 abbrev pub beside : Texts → List ℕ → List ℕ → Reading → List ℕ → List ℕ → Sample
-beside T t u r t′ u′ = record { texts = T; definitions-lent = t; spans-lent = u; answer = r; definitions-left = t′; spans-left = u′ }
+beside = given false
+
+-- for a release, where the span table is left as it was
+abbrev released : Texts → List ℕ → List ℕ → Reading → List ℕ → Sample
+released T t u r t′ = given true T t u r t′ u
 
 -- a note with an empty sheet
 abbrev pub sample : List ℕ → List ℕ → List ℕ → Reading → List ℕ → List ℕ → Sample
@@ -77,6 +88,13 @@ definition-row = 0 ∷ 1 ∷ 4 ∷ 7 ∷ 14 ∷ 16 ∷ 20 ∷ 1 ∷ []
 
 abbrev span-row : List ℕ
 span-row = 5 ∷ 27 ∷ 32 ∷ 28 ∷ 31 ∷ 1 ∷ 7 ∷ 14 ∷ 16 ∷ 20 ∷ 3 ∷ []
+
+-- one label, another destination in the sheet; and the rows of both
+abbrev conflicting : Texts
+conflicting = texts (ascii "[a]: /1\n\n[a]") (ascii "[a]: /2")
+
+abbrev conflicting-rows : List ℕ
+conflicting-rows = 0 ∷ 1 ∷ 2 ∷ 5 ∷ 7 ∷ 0 ∷ 0 ∷ 1 ∷ 1 ∷ 1 ∷ 2 ∷ 5 ∷ 7 ∷ 0 ∷ 0 ∷ 1 ∷ []
 
 -- a definition, a paragraph with a code span, and one with too many brackets open
 abbrev pub deep : List ℕ
@@ -114,6 +132,15 @@ samples =
     ∷ unchanged-beside (replicate 32769 97) (ascii "bc" ++ 13 ∷ []) [] [] (Bad 0 2)
     -- its paragraphs are ignored, and so are the brackets that are open in it
     ∷ unchanged-beside (ascii "`a`\n\n" ++ brackets 1025) (ascii "b") [] [] (Read 0 0)
+    -- "With yes, refusal 9", "the row number, from 1": P12, and one label in each text; "With no, all old answers hold."
+    ∷ released (alone (ascii "[foo]\n\n[foo]: first\n[foo]: second")) (lent 16) (lent 11) (Conflicting 2) (0 ∷ 8 ∷ 11 ∷ 14 ∷ 19 ∷ 0 ∷ 0 ∷ 3 ∷ 0 ∷ 21 ∷ 24 ∷ 27 ∷ 33 ∷ 0 ∷ 0 ∷ 4 ∷ [])
+    ∷ released conflicting (lent 17) (lent 11) (Conflicting 2) (conflicting-rows ++ lent 1)
+    ∷ beside conflicting (lent 16) (lent 11) (Read 2 1) conflicting-rows (5 ∷ 9 ∷ 12 ∷ 10 ∷ 11 ∷ 1 ∷ 5 ∷ 7 ∷ 0 ∷ 0 ∷ 3 ∷ [])
+    -- "Checked after 3", and before 5
+    ∷ released conflicting (lent 15) (lent 11) (FewDefinitions 2) (lent 15)
+    ∷ released conflicting (lent 16) [] (Conflicting 2) conflicting-rows
+    -- "Identical repeats still pass."
+    ∷ released (texts (ascii "[a]: /1") (ascii "[A]: </1>")) (lent 16) (lent 2) (Read 2 0) (0 ∷ 1 ∷ 2 ∷ 5 ∷ 7 ∷ 0 ∷ 0 ∷ 1 ∷ 1 ∷ 1 ∷ 2 ∷ 6 ∷ 8 ∷ 0 ∷ 0 ∷ 1 ∷ [])
     ∷ []
 
 -- as many brackets open as may be, and one more; and the latter before too few span rows
@@ -125,13 +152,13 @@ edges =
     ∷ []
 
 -- the same texts and tables lent, as they are answered
-abbrev answered : Texts → List ℕ → List ℕ → Reading → Sample
-answered T t u r = beside T t u r (definitionTableOf T (numberOf r) t) (spanTableOf T (numberOf r) u)
+abbrev answered : Bool → Texts → List ℕ → List ℕ → Reading → Sample
+answered release T t u r = given release T t u r (definitionTableOf T (numberOf r) t) (spanTableOf T (numberOf r) u)
 
 abbrev pub readOne : Sample → Sample
 readOne x =
-    answered (x .texts) (x .definitions-lent) (x .spans-lent)
-    (readingOf (x .texts) (definitionTable.wholeRows (x .definitions-lent)) (spanTable.wholeRows (x .spans-lent)))
+    answered (x .release) (x .texts) (x .definitions-lent) (x .spans-lent)
+    (readingOf (x .release) (x .texts) (definitionTable.wholeRows (x .definitions-lent)) (spanTable.wholeRows (x .spans-lent)))
 
 abbrev pub Hold : List Sample → Type 0
 Hold xs = map readOne xs ≡ xs
@@ -151,5 +178,5 @@ unfolding feeds lineOf scanBytes run past leap closingStep closing table onesFro
     spans finish scan scanStep scanFound scanStart over overs overWithin blankLine lineLength blockRest blockLength partLength blockHere blocks rows filled matchFrom
     reading.lineAfter reading.titleAfter reading.endingAfter reading.afterLabel reading.afterIndent reading.definitionAt reading.takingFrom reading.definitionsFrom
     reading.paragraphEnd reading.paragraphFrom reading.definitionsOf reading.paragraphOf reading.definitionsIn reading.paragraphsIn definitions paragraphs
-    countAfter runStep runDone closingRun pieceFrom closedAt afterDestination inlineOf labelAfter textTail tailOf labels rowsIn spanRows deepIn firstDeep readingOf
+    countAfter runStep runDone closingRun pieceFrom closedAt afterDestination inlineOf labelAfter textTail tailOf labels rowsIn spanRows deepIn firstDeep differ differsFrom conflictFrom firstConflict readingOf
 samples-hold = record { answers = refl; good-1024 = refl; good-1025 = refl; good-deep = refl; deep-parts = refl; shallow-first = refl }

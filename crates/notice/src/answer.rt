@@ -12,6 +12,7 @@ pub fn number(reading: Reading) -> u64
         Reading::Long(_, _) => 1,
         Reading::Bad(_, _) => 2,
         Reading::FewDefinitions(_) => 3,
+        Reading::Conflicting(_) => 9,
         Reading::Deep(_) => 4,
         Reading::FewSpans(_) => 5,
     }
@@ -26,6 +27,7 @@ pub fn value(reading: Reading) -> u64
         Reading::Long(_, n) => n as u64,
         Reading::Bad(_, k) => k as u64,
         Reading::FewDefinitions(n) => n as u64,
+        Reading::Conflicting(n) => n as u64,
         Reading::Deep(k) => k as u64,
         Reading::FewSpans(n) => n as u64,
     }
@@ -40,6 +42,7 @@ pub fn text(reading: Reading) -> u64
         Reading::Long(x, _) => x as u64,
         Reading::Bad(x, _) => x as u64,
         Reading::FewDefinitions(_) => 0,
+        Reading::Conflicting(_) => 0,
         Reading::Deep(_) => 0,
         Reading::FewSpans(_) => 0,
     }
@@ -54,6 +57,7 @@ pub fn definition_count(reading: Reading) -> u64
         Reading::Long(_, _) => 0,
         Reading::Bad(_, _) => 0,
         Reading::FewDefinitions(_) => 0,
+        Reading::Conflicting(_) => 0,
         Reading::Deep(_) => 0,
         Reading::FewSpans(_) => 0,
     }
@@ -68,6 +72,7 @@ pub fn span_count(reading: Reading) -> u64
         Reading::Long(_, _) => 0,
         Reading::Bad(_, _) => 0,
         Reading::FewDefinitions(_) => 0,
+        Reading::Conflicting(_) => 0,
         Reading::Deep(_) => 0,
         Reading::FewSpans(_) => 0,
     }

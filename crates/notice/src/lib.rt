@@ -1,15 +1,14 @@
 // The reader of a notice, with a sheet of definitions beside it.
 pub mod answer;
 
-ghost use mathlib.Core.Path.{_≡_};
 ghost use Rattle.texts.specs.Texts.{texts};
 ghost use Rattle.paragraph.specs.Promise.{Lent};
 ghost use Rattle.notice.specs.Promise.{Promise};
-ghost use Rattle.notice.specs.Spans.{Defined, NoteMarked, SpansRead};
+ghost use Rattle.paragraphs.specs.Spans.{Defined};
+ghost use Rattle.notice.specs.Spans.{SpansRead, JoinedRead};
 use paragraph::Tally;
-use step::Walk;
+use scan::Found;
 use texts::Checked;
-use walk::Paragraph;
 
 // What the reader answers: the counts of definitions and spans, or a refusal with its value; 1 and 2 with the text that they are about before it.
 pub enum Reading {
@@ -17,6 +16,7 @@ pub enum Reading {
     Long(usize, usize),
     Bad(usize, usize),
     FewDefinitions(usize),
+    Conflicting(usize),
     Deep(usize),
     FewSpans(usize),
 }
@@ -24,48 +24,7 @@ pub enum Reading {
 // A mark for each byte of the longest note, and one more.
 const MARKS: usize = 32769;
 
-// The spans of the note's paragraphs: stores their rows, as many as fit, and counts them; or the place of the first bracket too many.
-fn note_spans<'a>(
-    note: &'a [u8],
-    sheet: &'a [u8],
-    table: &[u32],
-    count: usize,
-    spans: &mut [u32],
-    stack: &mut [u32],
-    runs: &mut [u32; ticks::LENGTHS],
-    marks: &mut [u8],
-) -> Tally
-    requires { ⌜ Defined (texts (now note) (now sheet)) (now table) count ⌝ }
-    requires { ⌜ Lent (now note) (now stack) (now marks) ⌝ }
-    ensures { λ r. ⌜ NoteMarked (texts (now (note .entry)) (now (sheet .entry))) (now (spans .entry)) r (now (spans .exit)) ⌝ }
-{
-    let mut at = 0;
-    let mut w = Walk::first();
-    loop {
-        let Paragraph::At(start, end, next) = walk::next_paragraph(note, at) else {
-            return Tally::Spans(w);
-        };
-        match paragraph::read_paragraph(
-            note,
-            sheet,
-            start,
-            end,
-            table,
-            count,
-            spans,
-            w,
-            stack,
-            runs,
-            marks,
-        ) {
-            Tally::Deep(place) => return Tally::Deep(start + place),
-            Tally::Spans(v) => w = v,
-        }
-        at = next;
-    }
-}
-
-// The answer after refusals 1 to 3: counts the spans, and then stores their rows or refuses.
+// The answer after refusals 1 to 3 and 9: counts the spans, and then stores their rows or refuses.
 fn answer_spans<'a>(
     note: &'a [u8],
     sheet: &'a [u8],
@@ -81,7 +40,7 @@ fn answer_spans<'a>(
     ensures { λ r. ⌜ SpansRead (texts (now (note .entry)) (now (sheet .entry))) count (now (spans .entry)) r (now (spans .exit)) ⌝ }
 {
     let none = &mut spans[..0];
-    match note_spans(note, sheet, table, count, none, stack, runs, marks) {
+    match paragraphs::note_spans(note, sheet, table, count, none, stack, runs, marks) {
         Tally::Deep(place) => Reading::Deep(place),
         Tally::Spans(w) => {
             // Here too nothing is read again where there is no row to store.
@@ -91,7 +50,7 @@ fn answer_spans<'a>(
             if span::whole_rows(spans) < w.row {
                 return Reading::FewSpans(w.row);
             }
-            note_spans(note, sheet, table, count, spans, stack, runs, marks);
+            paragraphs::note_spans(note, sheet, table, count, spans, stack, runs, marks);
             Reading::Read(count, w.row)
         }
     }
@@ -123,14 +82,38 @@ fn read_spans<'a>(
     )
 }
 
-// Reads a note with the sheet beside it: fills the two tables that are lent, or refuses.
+// The answer after refusals 1 to 3: for a release, a definition that differs from an earlier one of equal label is refused.
+fn read_joined<'a>(
+    note: &'a [u8],
+    sheet: &'a [u8],
+    release: bool,
+    table: &[u32],
+    count: usize,
+    spans: &mut [u32],
+) -> Reading
+    requires { ⌜ Defined (texts (now note) (now sheet)) (now table) count ⌝ }
+    ensures { λ r. ⌜ JoinedRead release (texts (now (note .entry)) (now (sheet .entry))) count (now (spans .entry)) r (now (spans .exit)) ⌝ }
+{
+    if release {
+        match conflict::first_conflict(note, sheet, table, count) {
+            Found::At(k) => {
+                return Reading::Conflicting(k + 1);
+            }
+            Found::Nothing => {}
+        }
+    }
+    read_spans(note, sheet, table, count, spans)
+}
+
+// Reads a note with the sheet beside it, for a release or not: fills the two tables that are lent, or refuses.
 pub fn read<'a>(
     note: &'a [u8],
     sheet: &'a [u8],
+    release: bool,
     definitions: &mut [u32],
     spans: &mut [u32],
 ) -> Reading
-    ensures { λ r. ⌜ Promise (texts (now (note .entry)) (now (sheet .entry))) (now (definitions .entry)) (now (spans .entry)) r (texts (now (note .exit)) (now (sheet .exit))) (now (definitions .exit)) (now (spans .exit)) ⌝ }
+    ensures { λ r. ⌜ Promise release (texts (now (note .entry)) (now (sheet .entry))) (now (definitions .entry)) (now (spans .entry)) r (texts (now (note .exit)) (now (sheet .exit))) (now (definitions .exit)) (now (spans .exit)) ⌝ }
 {
     match texts::check(note, sheet) {
         Checked::Long(x, n) => {
@@ -147,8 +130,8 @@ pub fn read<'a>(
     }
     // Nothing is read again where there is no row to store.
     if count == 0 {
-        return read_spans(note, sheet, definitions, count, spans);
+        return read_joined(note, sheet, release, definitions, count, spans);
     }
     table::fill_joined(note, sheet, definitions);
-    read_spans(note, sheet, definitions, count, spans)
+    read_joined(note, sheet, release, definitions, count, spans)
 }

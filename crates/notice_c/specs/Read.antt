@@ -2,6 +2,8 @@
 use Prim.Native.Nat.{ℕ}
 use mathlib.Core.Path.{_≡_}
 use mathlib.Core.List.{List, [], _∷_}
+use mathlib.Core.Bool.{Bool, not}
+use lib.Dec.{eqb}
 use Rattle.texts.specs.Texts.{Texts}
 use Rattle.row.specs.Row as definitionTable
 use Rattle.span.specs.Row as spanTable
@@ -9,18 +11,22 @@ use Rattle.notice.specs.declared.Reading.{Reading}
 use Rattle.notice.specs.Answers.{numberOf, valueOf, namedOf, definitionCount, spanCount}
 use Rattle.notice.specs.Reading.{readingOf, definitionTableOf, spanTableOf}
 
--- the reader's answer to the texts T with the definition table t and the span table u
-abbrev pub reading : Texts → List ℕ → List ℕ → Reading
-reading T t u = readingOf T (definitionTable.wholeRows t) (spanTable.wholeRows u)
+-- a number as a yes-or-no setting: 0 is no, any other number yes
+abbrev pub isYes : ℕ → Bool
+isYes n = not (eqb n 0)
+
+-- the reader's answer, for a release or not, to the texts T with the definition table t and the span table u
+abbrev pub reading : ℕ → Texts → List ℕ → List ℕ → Reading
+reading release T t u = readingOf (isYes release) T (definitionTable.wholeRows t) (spanTable.wholeRows u)
 
 -- the value, then "the counts of definitions and spans", then the text
 abbrev pub numbersOf : Reading → List ℕ
 numbersOf r = valueOf r ∷ definitionCount r ∷ spanCount r ∷ namedOf r ∷ []
 
 -- The call returns `number` and leaves T′, t′ and u′ and the four numbers `answer`.
-pub record ReadPromise (T : Texts) (t u : List ℕ) (number : ℕ) (T′ : Texts) (t′ u′ answer : List ℕ) : Type 0 where
-  pub answered : number ≡ numberOf (reading T t u)
-  pub numbers : answer ≡ numbersOf (reading T t u)
-  pub definitions : t′ ≡ definitionTableOf T (numberOf (reading T t u)) t
-  pub spans : u′ ≡ spanTableOf T (numberOf (reading T t u)) u
+pub record ReadPromise (release : ℕ) (T : Texts) (t u : List ℕ) (number : ℕ) (T′ : Texts) (t′ u′ answer : List ℕ) : Type 0 where
+  pub answered : number ≡ numberOf (reading release T t u)
+  pub numbers : answer ≡ numbersOf (reading release T t u)
+  pub definitions : t′ ≡ definitionTableOf T (numberOf (reading release T t u)) t
+  pub spans : u′ ≡ spanTableOf T (numberOf (reading release T t u)) u
   pub texts : T′ ≡ T

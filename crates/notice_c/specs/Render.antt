@@ -10,20 +10,21 @@ use Rattle.notice.specs.Reading.{definitionTableOf, spanTableOf}
 use Rattle.rendering.specs.declared.Rendering.{Rendering}
 use Rattle.rendering.specs.Answers.{numberOf, valueOf, namedOf, definitionCount, spanCount, pageLength}
 use Rattle.rendering.specs.Reading.{renderingOf, pageBufferOf}
+use Rattle.notice_c.specs.Read.{isYes}
 
--- the page writer's answer to the texts T with the definition table t, the span table u and the page buffer p
-abbrev pub rendering : Texts → List ℕ → List ℕ → List ℕ → Rendering
-rendering T t u p = renderingOf T (definitionTable.wholeRows t) (spanTable.wholeRows u) (length p)
+-- the page writer's answer, for a release or not, to the texts T with the definition table t, the span table u and the page buffer p
+abbrev pub rendering : ℕ → Texts → List ℕ → List ℕ → List ℕ → Rendering
+rendering release T t u p = renderingOf (isYes release) T (definitionTable.wholeRows t) (spanTable.wholeRows u) (length p)
 
 -- the value, then "the counts of definitions and spans, from the page writer also the HTML's length", then the text
 abbrev pub numbersOf : Rendering → List ℕ
 numbersOf r = valueOf r ∷ definitionCount r ∷ spanCount r ∷ pageLength r ∷ namedOf r ∷ []
 
 -- The call returns `number` and leaves T′, t′, u′ and p′ and the five numbers `answer`.
-pub record RenderPromise (T : Texts) (t u p : List ℕ) (number : ℕ) (T′ : Texts) (t′ u′ p′ answer : List ℕ) : Type 0 where
-  pub answered : number ≡ numberOf (rendering T t u p)
-  pub numbers : answer ≡ numbersOf (rendering T t u p)
-  pub definitions : t′ ≡ definitionTableOf T (numberOf (rendering T t u p)) t
-  pub spans : u′ ≡ spanTableOf T (numberOf (rendering T t u p)) u
-  pub page : p′ ≡ pageBufferOf T (rendering T t u p) p
+pub record RenderPromise (release : ℕ) (T : Texts) (t u p : List ℕ) (number : ℕ) (T′ : Texts) (t′ u′ p′ answer : List ℕ) : Type 0 where
+  pub answered : number ≡ numberOf (rendering release T t u p)
+  pub numbers : answer ≡ numbersOf (rendering release T t u p)
+  pub definitions : t′ ≡ definitionTableOf T (numberOf (rendering release T t u p)) t
+  pub spans : u′ ≡ spanTableOf T (numberOf (rendering release T t u p)) u
+  pub page : p′ ≡ pageBufferOf T (rendering release T t u p) p
   pub texts : T′ ≡ T

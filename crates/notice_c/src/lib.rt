@@ -6,19 +6,20 @@ ghost use Rattle.notice_c.specs.Resolve.{ResolvePromise, startBy};
 ghost use Rattle.notice_c.specs.SameLabel.{SameLabelPromise};
 ghost use mathlib.Core.Path.{_≡_};
 
-// Reads a note with the sheet beside it: fills the two tables that are lent, or refuses. The answer's number is returned; its value, the counts
+// Reads a note with the sheet beside it, for a release where `release` is not 0: fills the two tables that are lent, or refuses. The answer's number is returned; its value, the counts
 // of definitions and spans and the text that it is about are stored.
 #[no_mangle]
 pub extern "C" fn notice_read<'a>(
     note: &'a [u8],
     sheet: &'a [u8],
+    release: u32,
     definitions: &mut [u32],
     spans: &mut [u32],
     answer: &mut [u64; 4],
 ) -> u32
-    ensures { λ r. ⌜ ReadPromise (texts (now (note .entry)) (now (sheet .entry))) (now (definitions .entry)) (now (spans .entry)) r (texts (now (note .exit)) (now (sheet .exit))) (now (definitions .exit)) (now (spans .exit)) (now (answer .exit)) ⌝ }
+    ensures { λ r. ⌜ ReadPromise release (texts (now (note .entry)) (now (sheet .entry))) (now (definitions .entry)) (now (spans .entry)) r (texts (now (note .exit)) (now (sheet .exit))) (now (definitions .exit)) (now (spans .exit)) (now (answer .exit)) ⌝ }
 {
-    let reading = notice::read(note, sheet, definitions, spans);
+    let reading = notice::read(note, sheet, release != 0, definitions, spans);
     let number = notice::answer::number(reading);
     let value = notice::answer::value(reading);
     let definition_count = notice::answer::definition_count(reading);
@@ -28,20 +29,21 @@ pub extern "C" fn notice_read<'a>(
     number as u32
 }
 
-// Writes a note's page, with the sheet beside it: fills the two tables and the page buffer that are lent, or refuses. The answer's number is
+// Writes a note's page, with the sheet beside it, for a release where `release` is not 0: fills the two tables and the page buffer that are lent, or refuses. The answer's number is
 // returned; its value, the counts of definitions and spans, the HTML's length and the text that it is about are stored.
 #[no_mangle]
 pub extern "C" fn notice_render<'a>(
     note: &'a [u8],
     sheet: &'a [u8],
+    release: u32,
     definitions: &mut [u32],
     spans: &mut [u32],
     page: &mut [u8],
     answer: &mut [u64; 5],
 ) -> u32
-    ensures { λ r. ⌜ RenderPromise (texts (now (note .entry)) (now (sheet .entry))) (now (definitions .entry)) (now (spans .entry)) (now (page .entry)) r (texts (now (note .exit)) (now (sheet .exit))) (now (definitions .exit)) (now (spans .exit)) (now (page .exit)) (now (answer .exit)) ⌝ }
+    ensures { λ r. ⌜ RenderPromise release (texts (now (note .entry)) (now (sheet .entry))) (now (definitions .entry)) (now (spans .entry)) (now (page .entry)) r (texts (now (note .exit)) (now (sheet .exit))) (now (definitions .exit)) (now (spans .exit)) (now (page .exit)) (now (answer .exit)) ⌝ }
 {
-    let rendering = rendering::render(note, sheet, definitions, spans, page);
+    let rendering = rendering::render(note, sheet, release != 0, definitions, spans, page);
     let number = rendering::number(rendering);
     let value = rendering::value(rendering);
     let definition_count = rendering::definition_count(rendering);

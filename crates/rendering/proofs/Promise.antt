@@ -4,6 +4,7 @@ use native.Mathlib.Omega.{arith}
 use mathlib.Core.Path.{_≡_, refl, sym, ap, _∙_, subst}
 use mathlib.Core.Logic.{_⊎_, inl, inr}
 use mathlib.Core.List.{List}
+use mathlib.Core.Bool.{Bool}
 use borrow.Author.Tests.{eqb-true, ne-eqb}
 use lib.ListN.{length, take, drop, length-append, length-drop}
 use lib.Dec.{eqb}
@@ -31,28 +32,28 @@ use Rattle.rendering.proofs.Alike.{same-number, same-value, same-named,
 use Rattle.rendering.proofs.Answers.{by-reader, page-size}
 use Rattle.rendering.proofs.Demand1 as answers
 
-module _ {T : Texts} {t u p : List ℕ} {r : Rendering} {T′ : Texts} {t′ u′ p′ : List ℕ} (m : Promise T t u p r T′ t′ u′ p′) where
+module _ {release : Bool} {T : Texts} {t u p : List ℕ} {r : Rendering} {T′ : Texts} {t′ u′ p′ : List ℕ} (m : Promise release T t u p r T′ t′ u′ p′) where
   abbrev definition-rows : ℕ
   definition-rows = definitionTable.wholeRows t
 
   abbrev span-rows : ℕ
   span-rows = spanTable.wholeRows u
 
-  pub demand-1 : Demand1 T definition-rows span-rows (length p) r
-  demand-1 = subst (Demand1 T definition-rows span-rows (length p)) (sym (m .answer)) (answers.demand-1 T definition-rows span-rows (length p))
+  pub demand-1 : Demand1 release T definition-rows span-rows (length p) r
+  demand-1 = subst (Demand1 release T definition-rows span-rows (length p)) (sym (m .answer)) (answers.demand-1 release T definition-rows span-rows (length p))
 
   -- ---- beside the reader
   abbrev need : ℕ
   need = length (pageOf T)
 
   abbrev x : Reading
-  x = readingOf T definition-rows span-rows
+  x = readingOf release T definition-rows span-rows
 
   by-answer : {y : Reading} → y ≡ x → r ≡ afterReading need (length p) y
-  by-answer e = m .answer ∙ by-reader T definition-rows span-rows (length p) (sym e)
+  by-answer e = m .answer ∙ by-reader release T definition-rows span-rows (length p) (sym e)
 
   -- the reader's answer, and the same tables, keep the reader's promise
-  reader-kept : ReaderPromise T t u x T′ t′ u′
+  reader-kept : ReaderPromise release T t u x T′ t′ u′
   reader-kept =
       record {
         answer = refl;
@@ -66,7 +67,7 @@ module _ {T : Texts} {t u p : List ℕ} {r : Rendering} {T′ : Texts} {t′ u�
         texts = m .texts;
       }
 
-  pub reads-alike : {y : Reading} {T₂ : Texts} {t₂ u₂ : List ℕ} → ReaderPromise T t u y T₂ t₂ u₂ → ReadsAlike y t₂ u₂ r t′ u′
+  pub reads-alike : {y : Reading} {T₂ : Texts} {t₂ u₂ : List ℕ} → ReaderPromise release T t u y T₂ t₂ u₂ → ReadsAlike y t₂ u₂ r t′ u′
   reads-alike {y} q =
       let e : r ≡ afterReading need (length p) y = by-answer (q .answer) in
       let same = reader-promise.one-answer reader-kept q in
@@ -114,15 +115,23 @@ module _ {T : Texts} {t u p : List ℕ} {r : Rendering} {T′ : Texts} {t′ u�
   number-is : numberOf r ≡ numberOf (afterReading need (length p) x)
   number-is = ap numberOf (by-answer refl)
 
-  refused : 1 ≤ numberOf r → numberOf r ≤ 5 → reader.numberOf x ≡ numberOf r
-  refused lo hi = was-refused need (length p) x (omega (arith, number-is)) (omega (arith, number-is)) ∙ sym number-is
+  refused : 1 ≤ numberOf r → (numberOf r ≡ 6 → ⊥) → reader.numberOf x ≡ numberOf r
+  refused lo other = was-refused need (length p) x (omega (arith, number-is)) (λ e. other (number-is ∙ e)) ∙ sym number-is
+
+  -- after 4, 5 and 9
+  only-definitions : 4 ≤ numberOf r → (numberOf r ≡ 6 → ⊥) → DefinitionRows T t t′ × (u′ ≡ u) × (p′ ≡ p)
+  only-definitions lo other =
+      let e = refused (omega arith) other in
+      let (a, c) = reader-promise.tables-hold reader-kept .definitions-only (omega (arith, e)) in
+      (a, c, untouched (omega arith))
 
   pub buffers-hold : Buffers T t u p r t′ u′ p′
   buffers-hold =
       let b = reader-promise.tables-hold reader-kept in
       record {
-        unchanged = λ lo hi. let e = refused lo (omega arith) in let (a, c) = b .unchanged (omega (arith, e)) (omega (arith, e)) in (a, c, untouched lo);
-        definitions-only = λ lo hi. let e = refused (omega arith) hi in let (a, c) = b .definitions-only (omega (arith, e)) in (a, c, untouched (omega arith));
+        unchanged = λ lo hi. let e = refused lo (λ z. omega (arith, z)) in let (a, c) = b .unchanged (omega (arith, e)) (omega (arith, e)) in (a, c, untouched lo);
+        definitions-only = λ lo hi. only-definitions lo (λ z. omega (arith, z));
+        conflicting = λ e. only-definitions (omega (arith, e)) (λ z. omega (arith, e, z));
         tables-only = λ z. let (a, c) = b .success (was-read need (length p) x (inr (sym number-is ∙ z))) in (a, c, untouched (omega (arith, z)));
         success = λ z. let (a, c) = b .success (was-read need (length p) x (inl (sym number-is ∙ z))) in (a, c, page-there z);
         by-rows = by-rows;
@@ -132,7 +141,7 @@ module _ {T : Texts} {t u p : List ℕ} {r : Rendering} {T′ : Texts} {t′ u�
       }
 
   -- "for each input the promise equates what the call gives .. with a definition"
-  pub one-answer : {r₂ : Rendering} {T₂ : Texts} {t₂ u₂ p₂ : List ℕ} → Promise T t u p r₂ T₂ t₂ u₂ p₂ → Same r t′ u′ p′ r₂ t₂ u₂ p₂
+  pub one-answer : {r₂ : Rendering} {T₂ : Texts} {t₂ u₂ p₂ : List ℕ} → Promise release T t u p r₂ T₂ t₂ u₂ p₂ → Same r t′ u′ p′ r₂ t₂ u₂ p₂
   one-answer q =
       let e : r ≡ _ = m .answer ∙ sym (q .answer) in
       record {

@@ -4,6 +4,7 @@ use native.Mathlib.Nat.{zero-add}
 use native.Mathlib.Omega.{arith}
 use mathlib.Core.Path.{_≡_, refl, sym, ap, _∙_, subst}
 use mathlib.Core.List.{List, [], _++_}
+use mathlib.Core.Bool.{Bool}
 use borrow.Author.Tests.{lt-ltb, le-ltb}
 use lib.ListN.{length}
 use lib.Seq.{sets-eq}
@@ -11,7 +12,7 @@ use Rattle.texts.specs.Texts.{Texts}
 use Rattle.texts.specs.Answers.{GoodTexts}
 use Rattle.row.specs.Row as definitionTable
 use Rattle.row.proofs.Filled.{length-filled, entries-back}
-use Rattle.joined.specs.Reading.{joined}
+use Rattle.joined.specs.Reading.{joined, Listing}
 use Rattle.span.specs.Row as spanTable
 use Rattle.note.specs.Reading.{spanRows}
 use Rattle.note.proofs.EachRow.{each-row-iff}
@@ -19,7 +20,6 @@ use Rattle.buffer.specs.Stored.{Writes}
 use Rattle.buffer.proofs.Writing.{measured}
 use Rattle.page.specs.Reading.{pageOf}
 use Rattle.cursor.specs.Spanned.{Spanned}
-use Rattle.writer.specs.Pass.{Listing}
 use Rattle.notice.specs.declared.Reading.{Reading}
 use Rattle.notice.specs.declared.Reading.the-variants as reader-variants
 use Rattle.notice.specs.Answers as reader
@@ -30,7 +30,7 @@ use Rattle.notice.proofs.Answers.{definition-count, span-count}
 use Rattle.notice.proofs.Promise as reader-promise
 use Rattle.notice.proofs.Standing.{rows-stand}
 use Rattle.rendering.specs.declared.Rendering.{Rendering}
-use Rattle.rendering.specs.declared.Rendering.the-variants.{Rendered, Long, Bad, FewDefinitions, Deep, FewSpans, ShortPage}
+use Rattle.rendering.specs.declared.Rendering.the-variants.{Rendered, Long, Bad, FewDefinitions, Conflicting, Deep, FewSpans, ShortPage}
 use Rattle.rendering.specs.Answers.{numberOf}
 use Rattle.rendering.specs.Reading.{afterReading, pageBufferOf}
 use Rattle.rendering.specs.Promise.{Promise}
@@ -50,32 +50,35 @@ filled-spanned T u {u′} g v e =
     }
 
 -- the reader has answered x
-module _ (p : List ℕ) {T : Texts} {t u : List ℕ} {T′ : Texts} {t′ u′ : List ℕ} {x : Reading} (m : ReaderPromise T t u x T′ t′ u′) where
+module _ (p : List ℕ) {release : Bool} {T : Texts} {t u : List ℕ} {T′ : Texts} {t′ u′ : List ℕ} {x : Reading} (m : ReaderPromise release T t u x T′ t′ u′) where
   abbrev need : ℕ
   need = length (pageOf T)
 
-  kept : {r : Rendering} {p′ : List ℕ} → afterReading need (length p) x ≡ r → p′ ≡ pageBufferOf T r p → Promise T t u p r T′ t′ u′ p′
+  kept : {r : Rendering} {p′ : List ℕ} → afterReading need (length p) x ≡ r → p′ ≡ pageBufferOf T r p → Promise release T t u p r T′ t′ u′ p′
   kept e q =
-      promised (sym (by-reader T (definitionTable.wholeRows t) (spanTable.wholeRows u) (length p) (sym (m .answer)) ∙ e))
+      promised (sym (by-reader release T (definitionTable.wholeRows t) (spanTable.wholeRows u) (length p) (sym (m .answer)) ∙ e))
       (m .definitions ∙ sym (same-definitions need (length p) T t x) ∙ ap (λ (y : Rendering). definitionTableOf T (numberOf y) t) e)
       (m .spans ∙ sym (same-spans need (length p) T u x) ∙ ap (λ (y : Rendering). spanTableOf T (numberOf y) u) e)
       q
       (m .texts)
 
   -- ---- it has refused
-  pub too-long : {y n : ℕ} → x ≡ reader-variants.Long y n → Promise T t u p (Long y n) T′ t′ u′ p
+  pub too-long : {y n : ℕ} → x ≡ reader-variants.Long y n → Promise release T t u p (Long y n) T′ t′ u′ p
   too-long e = kept (ap (afterReading need (length p)) e) refl
 
-  pub not-good : {y k : ℕ} → x ≡ reader-variants.Bad y k → Promise T t u p (Bad y k) T′ t′ u′ p
+  pub not-good : {y k : ℕ} → x ≡ reader-variants.Bad y k → Promise release T t u p (Bad y k) T′ t′ u′ p
   not-good e = kept (ap (afterReading need (length p)) e) refl
 
-  pub too-few-definitions : {n : ℕ} → x ≡ reader-variants.FewDefinitions n → Promise T t u p (FewDefinitions n) T′ t′ u′ p
+  pub too-few-definitions : {n : ℕ} → x ≡ reader-variants.FewDefinitions n → Promise release T t u p (FewDefinitions n) T′ t′ u′ p
   too-few-definitions e = kept (ap (afterReading need (length p)) e) refl
 
-  pub too-deep : {k : ℕ} → x ≡ reader-variants.Deep k → Promise T t u p (Deep k) T′ t′ u′ p
+  pub conflict-found : {n : ℕ} → x ≡ reader-variants.Conflicting n → Promise release T t u p (Conflicting n) T′ t′ u′ p
+  conflict-found e = kept (ap (afterReading need (length p)) e) refl
+
+  pub too-deep : {k : ℕ} → x ≡ reader-variants.Deep k → Promise release T t u p (Deep k) T′ t′ u′ p
   too-deep e = kept (ap (afterReading need (length p)) e) refl
 
-  pub too-few-spans : {n : ℕ} → x ≡ reader-variants.FewSpans n → Promise T t u p (FewSpans n) T′ t′ u′ p
+  pub too-few-spans : {n : ℕ} → x ≡ reader-variants.FewSpans n → Promise release T t u p (FewSpans n) T′ t′ u′ p
   too-few-spans e = kept (ap (afterReading need (length p)) e) refl
 
   -- ---- it has read the note
@@ -108,12 +111,12 @@ module _ (p : List ℕ) {T : Texts} {t u : List ℕ} {T′ : Texts} {t′ u′ :
       size-is : size ≡ need
       size-is = w .size ∙ zero-add need
 
-      pub short-page : length (part ++ p) < size → Promise T t u p (ShortPage size) T′ t′ u′ (part ++ p)
+      pub short-page : length (part ++ p) < size → Promise release T t u p (ShortPage size) T′ t′ u′ (part ++ p)
       short-page h =
           let z : length p < need = omega (arith, ap length back, size-is) in
           kept (rw (e, lt-ltb (length p) need z) (ap ShortPage (sym size-is))) back
 
-      pub page-written : size ≤ length (part ++ p) → {size′ : ℕ} {p′ : List ℕ} → Writes (part ++ p) 0 (pageOf T) p′ size′ → Promise T t u p (Rendered d n size) T′ t′ u′ p′
+      pub page-written : size ≤ length (part ++ p) → {size′ : ℕ} {p′ : List ℕ} → Writes (part ++ p) 0 (pageOf T) p′ size′ → Promise release T t u p (Rendered d n size) T′ t′ u′ p′
       page-written h {p′ = p′} v =
           let z : need ≤ length p = omega (arith, ap length back, size-is) in
           let y : 0 + need ≤ length p = omega arith in

@@ -1,7 +1,7 @@
 -- The page writer's answer and the page buffer at exit, as they are computed.
 use Prim.Native.Nat.{ℕ}
 use mathlib.Core.List.{List, _++_}
-use mathlib.Core.Bool.{cond}
+use mathlib.Core.Bool.{Bool, cond}
 use lib.ListN.{length, drop}
 use lib.Dec.{eqb, ltb}
 use Rattle.texts.specs.Texts.{Texts}
@@ -10,7 +10,7 @@ use Rattle.notice.specs.declared.Reading.{Reading}
 use Rattle.notice.specs.declared.Reading.the-variants as reader
 use Rattle.notice.specs.Reading.{readingOf}
 use Rattle.rendering.specs.declared.Rendering.{Rendering}
-use Rattle.rendering.specs.declared.Rendering.the-variants.{Rendered, Long, Bad, FewDefinitions, Deep, FewSpans, ShortPage}
+use Rattle.rendering.specs.declared.Rendering.the-variants.{Rendered, Long, Bad, FewDefinitions, Conflicting, Deep, FewSpans, ShortPage}
 use Rattle.rendering.specs.Answers.{numberOf}
 
 -- ---- the answer
@@ -20,6 +20,7 @@ readOr f (reader.Read d n) = f d n
 readOr f (reader.Long x n) = Long x n
 readOr f (reader.Bad x k) = Bad x k
 readOr f (reader.FewDefinitions n) = FewDefinitions n
+readOr f (reader.Conflicting n) = Conflicting n
 readOr f (reader.Deep k) = Deep k
 readOr f (reader.FewSpans n) = FewSpans n
 
@@ -31,9 +32,9 @@ withPage need room d n = cond (ltb room need) (ShortPage need) (Rendered d n nee
 abbrev pub afterReading : ℕ → ℕ → Reading → Rendering
 afterReading need room = readOr (withPage need room)
 
--- "The first that applies, in order 1 to 6, is the answer": where so many whole rows of each table and so many bytes are lent
-unfoldable pub renderingOf : Texts → ℕ → ℕ → ℕ → Rendering
-renderingOf T definition-rows span-rows room = afterReading (length (pageOf T)) room (readingOf T definition-rows span-rows)
+-- "The first that applies, in order 1 to 6, is the answer", and 9 is "Checked after 3": where so many whole rows of each table and so many bytes are lent
+unfoldable pub renderingOf : Bool → Texts → ℕ → ℕ → ℕ → Rendering
+renderingOf release T definition-rows span-rows room = afterReading (length (pageOf T)) room (readingOf release T definition-rows span-rows)
 
 -- ---- what was lent, at exit
 -- "After 6 both tables hold their rows and the page buffer is unchanged. After every answer, .. bytes past the part in use are unchanged.": p is the page buffer at entry

@@ -1,7 +1,8 @@
--- The whole example of document 01 and the empty note, by computation: answers, tables and pages.
+-- The whole example of document 01, the empty note, a sheet and a release, by computation: answers, tables and pages.
 use Prim.Native.Nat.{ℕ}
 use mathlib.Core.Path.{_≡_, refl}
 use mathlib.Core.List.{List, [], _∷_, _++_, map, flatMap}
+use mathlib.Core.Bool.{Bool, true, false}
 use lib.ListN.{length, replicate}
 use Rattle.scan.specs.Ascii.{ascii}
 use Rattle.line.specs.Line.{feeds, lineOf}
@@ -25,6 +26,7 @@ use Rattle.inline.specs.ReadingTails.{closedAt, afterDestination, inlineOf, lab
 use Rattle.texts.specs.Texts.{Texts, texts}
 use Rattle.texts.specs.Reading as both
 use Rattle.joined.specs.Reading.{joined}
+use Rattle.conflict.specs.Reading.{differ, differsFrom, conflictFrom, firstConflict}
 use Rattle.note.specs.Reading.{labels, rowsIn, spanRows, deepIn, firstDeep}
 use Rattle.escaping.specs.Escaping.{escaped}
 use Rattle.href.specs.Href.{stays, hexDigit, hrefByte}
@@ -34,12 +36,13 @@ use Rattle.html.specs.Reading.{titleAttribute, linkOpen}
 use Rattle.page.specs.Reading.{firstRow, writtenBy, contentFrom, paragraphPage, pageBy, pageOf}
 use Rattle.notice.specs.Reading.{readingOf, definitionTableOf, spanTableOf}
 use Rattle.rendering.specs.declared.Rendering.{Rendering}
-use Rattle.rendering.specs.declared.Rendering.the-variants.{Rendered, Bad, FewDefinitions, FewSpans, ShortPage}
+use Rattle.rendering.specs.declared.Rendering.the-variants.{Rendered, Bad, FewDefinitions, Conflicting, FewSpans, ShortPage}
 use Rattle.rendering.specs.Answers.{numberOf}
 use Rattle.rendering.specs.Reading.{renderingOf, pageBufferOf}
 
--- the texts and what is lent; the answer, and what then stands in the tables and the page buffer
+-- the setting, the texts and what is lent; the answer, and what then stands in the tables and the page buffer
 pub record Sample : Type 0 where
+  pub release : Bool
   pub texts : Texts
   pub lent-definitions : List ℕ
   pub lent-spans : List ℕ
@@ -54,9 +57,13 @@ abbrev old : ℕ → List ℕ
 old n = replicate n 9
 
 -- tables of a and b numbers and a page buffer of n bytes
+abbrev given : Bool → Texts → ℕ → ℕ → ℕ → Rendering → List ℕ → List ℕ → List ℕ → Sample
+given release T a b n r t u p =
+    record { release = release; texts = T; lent-definitions = old a; lent-spans = old b; lent-page = old n; answer = r; definitions = t; spans = u; page = p }
+
+-- not for a release
 abbrev beside : Texts → ℕ → ℕ → ℕ → Rendering → List ℕ → List ℕ → List ℕ → Sample
-beside T a b n r t u p =
-    record { texts = T; lent-definitions = old a; lent-spans = old b; lent-page = old n; answer = r; definitions = t; spans = u; page = p }
+beside = given false
 
 -- a note with an empty sheet
 abbrev sample : List ℕ → ℕ → ℕ → ℕ → Rendering → List ℕ → List ℕ → List ℕ → Sample
@@ -78,6 +85,10 @@ spanRow = 5 ∷ 27 ∷ 32 ∷ 28 ∷ 31 ∷ 1 ∷ 7 ∷ 14 ∷ 16 ∷ 20 ∷ 3 �
 abbrev html : List ℕ
 html = ascii "<p>Use <a href=\"/q2/max\" title=\"June\">max</a>.</p>\n"
 
+-- the rows of `[a]: b` and, on the next line, `[a]: b ''`
+abbrev titled : List ℕ
+titled = 0 ∷ 1 ∷ 2 ∷ 5 ∷ 6 ∷ 0 ∷ 0 ∷ 1 ∷ 0 ∷ 8 ∷ 9 ∷ 12 ∷ 13 ∷ 15 ∷ 15 ∷ 2 ∷ []
+
 abbrev pub samples : List Sample
 samples =
     -- exactly as much as is needed; one byte less; one byte more
@@ -96,16 +107,22 @@ samples =
     (5 ∷ 4 ∷ 9 ∷ 5 ∷ 8 ∷ 1 ∷ 7 ∷ 14 ∷ 16 ∷ 20 ∷ 1 ∷ []) html
     -- the sheet refused
     ∷ beside (texts (ascii "a") (13 ∷ [])) 0 0 0 (Bad 1 0) [] [] []
+    -- for a release, one label with and without a title: "definition table filled, span table and page unchanged"; and not for a release
+    ∷ given true (texts (ascii "[a]: b\n[a]: b ''\n\n`c`") []) 16 11 21 (Conflicting 2) titled (old 11) (old 21)
+    ∷ given false (texts (ascii "[a]: b\n[a]: b ''\n\n`c`") []) 16 11 22 (Rendered 2 1 22) titled (1 ∷ 18 ∷ 21 ∷ 19 ∷ 20 ∷ 0 ∷ 0 ∷ 0 ∷ 0 ∷ 0 ∷ 4 ∷ []) (ascii "<p><code>c</code></p>\n")
+    -- for a release too, an identical repeat
+    ∷ given true (texts (ascii "[a]: b\n\n[a]: b") []) 16 0 0 (Rendered 2 0 0) (0 ∷ 1 ∷ 2 ∷ 5 ∷ 6 ∷ 0 ∷ 0 ∷ 1 ∷ 0 ∷ 9 ∷ 10 ∷ 13 ∷ 14 ∷ 0 ∷ 0 ∷ 3 ∷ []) [] []
     ∷ []
 
 abbrev answerTo : Sample → Rendering
-answerTo x = renderingOf (x .texts) (definitionTable.wholeRows (x .lent-definitions)) (spanTable.wholeRows (x .lent-spans)) (length (x .lent-page))
+answerTo x = renderingOf (x .release) (x .texts) (definitionTable.wholeRows (x .lent-definitions)) (spanTable.wholeRows (x .lent-spans)) (length (x .lent-page))
 
 -- the same texts with what was lent, as the page writer answers
 abbrev pub rendered : Sample → Sample
 rendered x =
     let r = answerTo x in
     record {
+      release = x .release;
       texts = x .texts;
       lent-definitions = x .lent-definitions;
       lent-spans = x .lent-spans;
@@ -123,5 +140,5 @@ unfolding feeds lineOf scanBytes run past leap closingStep closing onesFrom lead
     definition.lineAfter definition.titleAfter definition.endingAfter definition.afterLabel definition.afterIndent definition.definitionAt definition.takingFrom definition.definitionsFrom
     definition.paragraphEnd definition.paragraphFrom definition.definitionsOf definition.paragraphOf definition.definitionsIn definition.paragraphsIn definition.definitions definition.paragraphs
     countAfter runStep runDone closingRun pieceFrom closedAt afterDestination inlineOf labelAfter textTail tailOf labels rowsIn spanRows deepIn firstDeep
-    flatMap escaped stays hexDigit hrefByte undone margin titleAttribute linkOpen firstRow writtenBy contentFrom paragraphPage pageBy pageOf readingOf renderingOf
+    flatMap escaped stays hexDigit hrefByte undone margin titleAttribute linkOpen firstRow writtenBy contentFrom paragraphPage pageBy pageOf differ differsFrom conflictFrom firstConflict readingOf renderingOf
 samples-hold = refl

@@ -12,6 +12,7 @@ pub enum Rendering {
     Long(usize, usize),
     Bad(usize, usize),
     FewDefinitions(usize),
+    Conflicting(usize),
     Deep(usize),
     FewSpans(usize),
     ShortPage(usize),
@@ -26,6 +27,7 @@ pub fn number(r: Rendering) -> u64
         Rendering::Long(_, _) => 1,
         Rendering::Bad(_, _) => 2,
         Rendering::FewDefinitions(_) => 3,
+        Rendering::Conflicting(_) => 9,
         Rendering::Deep(_) => 4,
         Rendering::FewSpans(_) => 5,
         Rendering::ShortPage(_) => 6,
@@ -41,6 +43,7 @@ pub fn value(r: Rendering) -> u64
         Rendering::Long(_, length) => length as u64,
         Rendering::Bad(_, place) => place as u64,
         Rendering::FewDefinitions(rows) => rows as u64,
+        Rendering::Conflicting(row) => row as u64,
         Rendering::Deep(place) => place as u64,
         Rendering::FewSpans(rows) => rows as u64,
         Rendering::ShortPage(bytes) => bytes as u64,
@@ -56,6 +59,7 @@ pub fn text(r: Rendering) -> u64
         Rendering::Long(x, _) => x as u64,
         Rendering::Bad(x, _) => x as u64,
         Rendering::FewDefinitions(_) => 0,
+        Rendering::Conflicting(_) => 0,
         Rendering::Deep(_) => 0,
         Rendering::FewSpans(_) => 0,
         Rendering::ShortPage(_) => 0,
@@ -71,6 +75,7 @@ pub fn definition_count(r: Rendering) -> u64
         Rendering::Long(_, _) => 0,
         Rendering::Bad(_, _) => 0,
         Rendering::FewDefinitions(_) => 0,
+        Rendering::Conflicting(_) => 0,
         Rendering::Deep(_) => 0,
         Rendering::FewSpans(_) => 0,
         Rendering::ShortPage(_) => 0,
@@ -86,6 +91,7 @@ pub fn span_count(r: Rendering) -> u64
         Rendering::Long(_, _) => 0,
         Rendering::Bad(_, _) => 0,
         Rendering::FewDefinitions(_) => 0,
+        Rendering::Conflicting(_) => 0,
         Rendering::Deep(_) => 0,
         Rendering::FewSpans(_) => 0,
         Rendering::ShortPage(_) => 0,
@@ -101,6 +107,7 @@ pub fn page_length(r: Rendering) -> u64
         Rendering::Long(_, _) => 0,
         Rendering::Bad(_, _) => 0,
         Rendering::FewDefinitions(_) => 0,
+        Rendering::Conflicting(_) => 0,
         Rendering::Deep(_) => 0,
         Rendering::FewSpans(_) => 0,
         Rendering::ShortPage(_) => 0,
@@ -111,16 +118,18 @@ pub fn page_length(r: Rendering) -> u64
 pub fn render<'a>(
     note: &'a [u8],
     sheet: &'a [u8],
+    release: bool,
     definitions: &mut [u32],
     spans: &mut [u32],
     page: &mut [u8],
 ) -> Rendering
-    ensures { λ r. ⌜ Promise (texts (now (note .entry)) (now (sheet .entry))) (now (definitions .entry)) (now (spans .entry)) (now (page .entry)) r (texts (now (note .exit)) (now (sheet .exit))) (now (definitions .exit)) (now (spans .exit)) (now (page .exit)) ⌝ }
+    ensures { λ r. ⌜ Promise release (texts (now (note .entry)) (now (sheet .entry))) (now (definitions .entry)) (now (spans .entry)) (now (page .entry)) r (texts (now (note .exit)) (now (sheet .exit))) (now (definitions .exit)) (now (spans .exit)) (now (page .exit)) ⌝ }
 {
-    match notice::read(note, sheet, definitions, spans) {
+    match notice::read(note, sheet, release, definitions, spans) {
         Reading::Long(x, n) => Rendering::Long(x, n),
         Reading::Bad(x, k) => Rendering::Bad(x, k),
         Reading::FewDefinitions(n) => Rendering::FewDefinitions(n),
+        Reading::Conflicting(n) => Rendering::Conflicting(n),
         Reading::Deep(k) => Rendering::Deep(k),
         Reading::FewSpans(n) => Rendering::FewSpans(n),
         Reading::Read(d, n) => {

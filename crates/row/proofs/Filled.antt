@@ -1,11 +1,12 @@
 -- Rows stored one after the other fill the table, and are read back from it.
 use Prim.Native.Nat.{ℕ, zero, suc, _+_, _*_, _≤_, _<_}
+use native.Mathlib.Nat.{add-zero}
 use native.Mathlib.Numerals.{add-one}
 use native.Mathlib.Omega.{arith}
 use mathlib.Core.Path.{_≡_, refl, ap, ap₂, subst⁻¹, _∙_}
 use mathlib.Core.List.{List, [], _∷_, _++_, map}
 use mathlib.Core.Logic.{_↔_}
-use lib.ListN.{length, getD, drop}
+use lib.ListN.{length, getD, take, drop}
 use lib.Seq.{getD-append-add}
 use Rattle.scan.specs.declared.Found.the-variants.{At, Nothing}
 use Rattle.rows.specs.Rows
@@ -14,7 +15,7 @@ use Rattle.texts.specs.Texts.{Texts, textOf}
 use Rattle.rows.proofs.Storing as storing
 use Rattle.row.specs.declared.Definition.{Definition}
 use Rattle.row.specs.Row.{range, Listed, listed, width, numbers, rows, wholeRows, filled, storedAll}
-use Rattle.row.specs.First.{labelsOf, FirstEqual, NoneEqual}
+use Rattle.row.specs.First.{labelsOf, past-end, FirstEqual, NoneEqual}
 use Rattle.row.specs.Reading.{rangeAt, listedAt, listedFrom, firstMatch, rowOf, Within, Fit}
 use Rattle.row.proofs.First.{first-equal, none-equal}
 
@@ -46,6 +47,21 @@ module _ (T : Texts) where
   pub stored-after : (k : ℕ) (passed : List Listed) (ds : List Definition) (t₀ : List ℕ) {t : List ℕ} {n : ℕ} → t ≡ filled T passed t₀ → n ≡ length passed
       → storedAll k (textOf T k) t n ds ≡ filled T (passed ++ map (listed k) ds) t₀
   stored-after k passed ds t₀ {t} {n} et en = storing.stored-mapped width (numbers T) (listed k) ds t n ∙ Filled.store-all width (numbers T) wide t₀ passed (map (listed k) ds) et en
+
+-- ---- the entries of a table, one by one
+-- the entry of row k + i
+pub entry-at : (t : List ℕ) (k n i : ℕ) → i < n → getD (listedFrom t k n) i past-end ≡ listedAt t (k + i)
+unfolding listedFrom
+entry-at t k zero i h = absurd (omega arith)
+entry-at t k (suc n) zero h = rw (add-zero k) refl
+entry-at t k (suc n) (suc i) h = let z : k + 1 + i ≡ k + suc i = omega arith in entry-at t (k + 1) n i (omega arith) ∙ ap (λ (j : ℕ). listedAt t j) z
+
+-- those of its first k rows
+pub entries-taken : (t : List ℕ) (from n k : ℕ) → k ≤ n → listedFrom t from k ≡ take k (listedFrom t from n)
+unfolding listedFrom
+entries-taken t from n zero h = refl
+entries-taken t from zero (suc k) h = absurd (omega arith)
+entries-taken t from (suc n) (suc k) h = ap (λ (l : List Listed). listedAt t from ∷ l) (entries-taken t (from + 1) n k (omega arith))
 
 -- ---- reading back: past a row, each row is the next of what is left
 module _ (T : Texts) (d : Listed) (t : List ℕ) where

@@ -28,19 +28,19 @@ pub other-text : (T : Texts) (k : ℕ) → (k ≡ 0 → ⊥) → T .sheet ≡ te
 other-text T zero n = absurd (n refl)
 other-text T (suc k) n = refl
 
--- the part r that stands as the label of the row at `at`, where the row names the note, and where it names the sheet
-module _ (T : Texts) (t : List ℕ) (at : ℕ) {r : Range} (p : r ≡ rangeAt t (at + 1)) where
-  pub in-note : Within (textOf T (getD t at 0)) (rangeAt t (at + 1)) → getD t at 0 ≡ 0 → Within (T .note) r
-  in-note w e = rw p (subst (λ (k : ℕ). Within (textOf T k) (rangeAt t (at + 1))) e w)
+-- the part r of text k, where that is the note, and where it is the sheet
+module _ (T : Texts) (k : ℕ) (r : Range) where
+  pub in-note : Within (textOf T k) r → k ≡ 0 → Within (T .note) r
+  in-note w e = subst (λ (n : ℕ). Within (textOf T n) r) e w
 
-  pub in-sheet : Within (textOf T (getD t at 0)) (rangeAt t (at + 1)) → (getD t at 0 ≡ 0 → ⊥) → Within (T .sheet) r
-  in-sheet w n = rw (other-text T (getD t at 0) n, p) w
+  pub in-sheet : Within (textOf T k) r → (k ≡ 0 → ⊥) → Within (T .sheet) r
+  in-sheet w n = rw (other-text T k n) w
 
-  pub of-note : getD t at 0 ≡ 0 → bytesOf (T .note) r ≡ labelAt T t at
-  of-note e = rw (e, p) refl
+  pub of-note : k ≡ 0 → bytesOf (T .note) r ≡ bytesOf (textOf T k) r
+  of-note e = rw e refl
 
-  pub of-sheet : (getD t at 0 ≡ 0 → ⊥) → bytesOf (T .sheet) r ≡ labelAt T t at
-  of-sheet n = rw p (ap (λ (s : List ℕ). bytesOf s (rangeAt t (at + 1))) (other-text T (getD t at 0) n))
+  pub of-sheet : (k ≡ 0 → ⊥) → bytesOf (T .sheet) r ≡ bytesOf (textOf T k) r
+  of-sheet n = ap (λ (s : List ℕ). bytesOf s r) (other-text T k n)
 
 module _ (T : Texts) (t label : List ℕ) where
   -- what the lookup finds in n rows from row k on

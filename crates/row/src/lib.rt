@@ -3,6 +3,7 @@ ghost use mathlib.Core.Path.{_≡_};
 ghost use Prim.Native.Nat.{_+_, _<_, _^_};
 ghost use lib.ListN.{length, getD};
 ghost use Rattle.texts.specs.Texts.{texts, textOf};
+ghost use Rattle.row.specs.First.{bytesOf};
 ghost use Rattle.row.specs.Row.{range, absent, definition, SmallPart, Small, wholeRows, storedRange, storedOn};
 ghost use Rattle.row.specs.Reading.{rangeAt, textAt, definitionAt, labelAt, Within, Fit, rowOf};
 use scan::Found;
@@ -118,17 +119,26 @@ pub fn text_at(table: &[u32], k: usize) -> usize
     table[k * Definition::WIDTH] as usize
 }
 
+// The bytes of a part of the text with this number.
+pub fn part_of<'a>(note: &'a [u8], sheet: &'a [u8], text: usize, r: Range) -> &'a [u8]
+    requires { ⌜ Within (textOf (texts (now note) (now sheet)) text) r ⌝ }
+    ensures { λ s. ⌜ now s ≡ bytesOf (textOf (texts (now (note .entry)) (now (sheet .entry))) text) r ⌝ }
+{
+    let Range { start, end } = r;
+    if text == texts::NOTE {
+        return &note[start..end];
+    }
+    &sheet[start..end]
+}
+
 // The label of the row that starts at `at`, from the text that the row names.
 fn label_at<'a>(note: &'a [u8], sheet: &'a [u8], table: &[u32], at: usize) -> &'a [u8]
     requires { ⌜ at + 2 < length (now table) ⌝ }
     requires { ⌜ Within (textOf (texts (now note) (now sheet)) (getD (now table) at 0)) (rangeAt (now table) (at + 1)) ⌝ }
     ensures { λ r. ⌜ now r ≡ labelAt (texts (now (note .entry)) (now (sheet .entry))) (now (table .entry)) at ⌝ }
 {
-    let Range { start, end } = range_at(table, at + 1);
-    if table[at] as usize == texts::NOTE {
-        return &note[start..end];
-    }
-    &sheet[start..end]
+    let r = range_at(table, at + 1);
+    part_of(note, sheet, table[at] as usize, r)
 }
 
 // The first of `n` rows whose label equals `label`. Rows are passed by where they start, so that no row is numbered but the one found.

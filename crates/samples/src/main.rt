@@ -49,7 +49,7 @@ fn show_reading<'a>(note: &'a [u8], sheet: &'a [u8], sizes: Sizes)
     let mut span_room = span_table();
     let definitions = &mut definition_room[..sizes.definitions];
     let spans = &mut span_room[..sizes.spans];
-    report::reading(notice::read(note, sheet, definitions, spans));
+    report::reading(notice::read(note, sheet, sizes.release, definitions, spans));
     report::tables(definitions, spans);
 }
 
@@ -63,7 +63,7 @@ fn show_rendering<'a>(note: &'a [u8], sheet: &'a [u8], sizes: Sizes)
     let definitions = &mut definition_room[..sizes.definitions];
     let spans = &mut span_room[..sizes.spans];
     let page = &mut page_room[..sizes.page];
-    report::rendering(rendering::render(note, sheet, definitions, spans, page));
+    report::rendering(rendering::render(note, sheet, sizes.release, definitions, spans, page));
     report::tables(definitions, spans);
     report::line(page);
 }

@@ -35,10 +35,12 @@ use Rattle.note.specs.Claims.{lookedUp}
 use Rattle.note.proofs.Markings.{marked, list-is-read}
 use Rattle.note.proofs.References.{references-refer}
 use Rattle.page.specs.Reading as both-page
+use Rattle.paragraphs.specs.Spans.{spansFilled}
 use Rattle.notice.specs.declared.Reading.{Reading}
 use Rattle.notice.specs.Answers as reader
 use Rattle.notice.specs.Reading as reader-readings
 use Rattle.notice.proofs.Order.{by-check}
+use Rattle.notice.proofs.Given.{given-or-kept}
 use Rattle.rendering.specs.declared.Rendering.{Rendering}
 use Rattle.rendering.specs.Answers as writer
 use Rattle.rendering.specs.Reading as writer-readings
@@ -94,19 +96,19 @@ module _ (s : List ℕ) where
   count = omega (arith, length-joined T, no-definitions)
 
   -- ---- the reader
-  by-text : (c : Check) → one.checkOf s ≡ c → (d n : ℕ) → reader-readings.readingOf T d n ≡ alone-answers.readingOf s d n
+  by-text : (c : Check) → one.checkOf s ≡ c → (d n : ℕ) → reader-readings.readingOf false T d n ≡ alone-answers.readingOf s d n
   unfolding alone-answers.readingOf
-  by-text text.Good e d n = by-check T d n _ (by-both T text.Good text.Good e empty-good) ∙ rw (e, count, same .first-deep, same .span-rows) refl
-  by-text (text.Long k) e d n = by-check T d n _ (by-both T (text.Long k) text.Good e empty-good) ∙ rw e refl
-  by-text (text.Bad k) e d n = by-check T d n _ (by-both T (text.Bad k) text.Good e empty-good) ∙ rw e refl
+  by-text text.Good e d n = by-check false T d n _ (by-both T text.Good text.Good e empty-good) ∙ rw (e, count, same .first-deep, same .span-rows) refl
+  by-text (text.Long k) e d n = by-check false T d n _ (by-both T (text.Long k) text.Good e empty-good) ∙ rw e refl
+  by-text (text.Bad k) e d n = by-check false T d n _ (by-both T (text.Bad k) text.Good e empty-good) ∙ rw e refl
 
-  reading : (d n : ℕ) → reader-readings.readingOf T d n ≡ alone-answers.readingOf s d n
+  reading : (d n : ℕ) → reader-readings.readingOf false T d n ≡ alone-answers.readingOf s d n
   reading = by-text (one.checkOf s) refl
 
   abbrev Named : Reading → Type 0
   Named r = reader.namedOf r ≡ 0
 
-  after-good : (d n e m : ℕ) → Named (reader-readings.withDefinitions d (alone.firstDeep s) n e m)
+  after-good : (d n e m : ℕ) → Named (reader-readings.withoutConflicts d (alone.firstDeep s) n e m)
   after-good d n e m = by (ltb e d) (λ q. rw q refl) (λ q. rw q (depth (alone.firstDeep s)))
     where
       depth : (o : Option ℕ) → Named (reader-readings.withSpans d o n m)
@@ -118,7 +120,7 @@ module _ (s : List ℕ) where
   named-by (text.Long k) r h = refl
   named-by (text.Bad k) r h = refl
 
-  reading-named : (d n : ℕ) → Named (reader-readings.readingOf T d n)
+  reading-named : (d n : ℕ) → Named (reader-readings.readingOf false T d n)
   unfolding alone-answers.readingOf
   reading-named d n = subst Named (sym (reading d n)) (named-by (one.checkOf s) _ (after-good (length (definitions s)) (length (alone.spanRows s)) d n))
 
@@ -139,17 +141,18 @@ module _ (s : List ℕ) where
   definition-table : (number : ℕ) (t : List ℕ) → reader-readings.definitionTableOf T number t ≡ alone-answers.definitionTableOf s number t
   definition-table number t = ap (λ (l : List ℕ). cond (within 1 3 number) t l) (table-filled t)
 
-  span-table : (number : ℕ) (u : List ℕ) → reader-readings.spanTableOf T number u ≡ alone-answers.spanTableOf s number u
-  span-table number u = ap (λ (rows : List (List ℕ)). cond (within 1 5 number) u (reader-readings.spansFilled rows u)) (same .span-rows)
+  span-table : (number : ℕ) (u : List ℕ) → number ≤ 6 → reader-readings.spanTableOf T number u ≡ alone-answers.spanTableOf s number u
+  span-table number u h =
+      given-or-kept number h (spansFilled (both.spanRows T) u) u ∙ ap (λ (rows : List (List ℕ)). cond (within 1 5 number) u (spansFilled rows u)) (same .span-rows)
 
   -- ---- the page writer
-  rendering : (d n room : ℕ) → writer-readings.renderingOf T d n room ≡ alone-answers.renderingOf s d n room
+  rendering : (d n room : ℕ) → writer-readings.renderingOf false T d n room ≡ alone-answers.renderingOf s d n room
   unfolding writer-readings.renderingOf alone-answers.renderingOf
   rendering d n room = ap₂ (λ (w : List ℕ) (r : Reading). writer-readings.afterReading (length w) room r) (same .page) (reading d n)
 
-  rendering-named : (d n room : ℕ) → writer.namedOf (writer-readings.renderingOf T d n room) ≡ 0
+  rendering-named : (d n room : ℕ) → writer.namedOf (writer-readings.renderingOf false T d n room) ≡ 0
   unfolding writer-readings.renderingOf
-  rendering-named d n room = same-named (length (both-page.pageOf T)) room (reader-readings.readingOf T d n) ∙ reading-named d n
+  rendering-named d n room = same-named (length (both-page.pageOf T)) room (reader-readings.readingOf false T d n) ∙ reading-named d n
 
   page-buffer : (r : Rendering) (p : List ℕ) → writer-readings.pageBufferOf T r p ≡ alone-answers.pageBufferOf s r p
   page-buffer r p = ap (λ (w : List ℕ). cond (eqb (writer.numberOf r) 0) (w ++ drop (length w) p) p) (same .page)

@@ -18,7 +18,8 @@ use Rattle.row.specs.Reading.{firstMatch}
 use Rattle.definition.specs.Reading.{definitions}
 use Rattle.notice.specs.declared.Reading.{Reading}
 use Rattle.notice.specs.declared.Reading.the-variants as reader
-use Rattle.notice.specs.Reading.{withDefinitions, spansFilled}
+use Rattle.paragraphs.specs.Spans.{spansFilled}
+use Rattle.notice.specs.Reading.{withoutConflicts}
 use Rattle.rendering.specs.declared.Rendering.{Rendering}
 use Rattle.rendering.specs.Answers.{numberOf}
 use Rattle.rendering.specs.Reading.{afterReading}
@@ -34,7 +35,7 @@ refusedOr (text.Long n) r = reader.Long noteNumber n
 refusedOr (text.Bad k) r = reader.Bad noteNumber k
 
 unfoldable pub readingOf : List ℕ → ℕ → ℕ → Reading
-readingOf s definition-rows span-rows = refusedOr (checkOf s) (withDefinitions (length (definitions s)) (firstDeep s) (length (spanRows s)) definition-rows span-rows)
+readingOf s definition-rows span-rows = refusedOr (checkOf s) (withoutConflicts (length (definitions s)) (firstDeep s) (length (spanRows s)) definition-rows span-rows)
 
 -- after an answer with this number: each row is the old one behind a leading 0
 abbrev pub definitionTableOf : List ℕ → ℕ → List ℕ → List ℕ

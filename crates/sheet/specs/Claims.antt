@@ -3,6 +3,7 @@
 use Prim.Native.Nat.{ℕ, _≤_, _<_}
 use mathlib.Core.Path.{_≡_}
 use mathlib.Core.List.{List, []}
+use mathlib.Core.Bool.{false}
 use lib.ListN.{length, getD}
 use Rattle.scan.specs.Member.{In}
 use Rattle.texts.specs.Texts.{Texts, texts}
@@ -24,18 +25,19 @@ use Rattle.enquiry.specs.Reading as enquiry-readings
 use Rattle.sheet.specs.Alone as alone
 use Rattle.sheet.specs.Answers as alone-answers
 
--- "An empty sheet must give the old answers, where as many whole definition rows are lent, but for that leading 0 and the text named." The calls give what stands on the
--- left of each line, by their promises; on the right stands what is said of the note s alone.
+-- "An empty sheet must give the old answers, where as many whole definition rows are lent, but for that leading 0 and the text named." The old answers know no release:
+-- the setting is no. The calls give what stands on the left of each line, by their promises; on the right stands what is said of the note s alone.
 pub record EmptySheet (s : List ℕ) : Type 0 where
   -- number, value and counts
-  pub reading : (definition-rows span-rows : ℕ) → reader-readings.readingOf (texts s []) definition-rows span-rows ≡ alone-answers.readingOf s definition-rows span-rows
-  pub reading-named : (definition-rows span-rows : ℕ) → reader.namedOf (reader-readings.readingOf (texts s []) definition-rows span-rows) ≡ 0
+  pub reading : (definition-rows span-rows : ℕ) → reader-readings.readingOf false (texts s []) definition-rows span-rows ≡ alone-answers.readingOf s definition-rows span-rows
+  pub reading-named : (definition-rows span-rows : ℕ) → reader.namedOf (reader-readings.readingOf false (texts s []) definition-rows span-rows) ≡ 0
   -- what the tables hold after an answer with this number
   pub definition-table : (number : ℕ) (t : List ℕ) → reader-readings.definitionTableOf (texts s []) number t ≡ alone-answers.definitionTableOf s number t
-  pub span-table : (number : ℕ) (u : List ℕ) → reader-readings.spanTableOf (texts s []) number u ≡ alone-answers.spanTableOf s number u
+  -- none has a number past 6
+  pub span-table : (number : ℕ) (u : List ℕ) → number ≤ 6 → reader-readings.spanTableOf (texts s []) number u ≡ alone-answers.spanTableOf s number u
   -- the page writer
-  pub rendering : (definition-rows span-rows room : ℕ) → writer-readings.renderingOf (texts s []) definition-rows span-rows room ≡ alone-answers.renderingOf s definition-rows span-rows room
-  pub rendering-named : (definition-rows span-rows room : ℕ) → writer.namedOf (writer-readings.renderingOf (texts s []) definition-rows span-rows room) ≡ 0
+  pub rendering : (definition-rows span-rows room : ℕ) → writer-readings.renderingOf false (texts s []) definition-rows span-rows room ≡ alone-answers.renderingOf s definition-rows span-rows room
+  pub rendering-named : (definition-rows span-rows room : ℕ) → writer.namedOf (writer-readings.renderingOf false (texts s []) definition-rows span-rows room) ≡ 0
   pub page-buffer : (r : Rendering) (p : List ℕ) → writer-readings.pageBufferOf (texts s []) r p ≡ alone-answers.pageBufferOf s r p
   -- the enquiry
   pub enquiry : (label : List ℕ) → enquiry-readings.enquiryOf (texts s []) label ≡ alone-answers.enquiryOf s label

@@ -8,9 +8,7 @@ use lib.ListN.{length, take}
 use lib.Dec.{eqb}
 use Rattle.scan.specs.Member.{In}
 use Rattle.texts.specs.Texts.{Texts, texts}
-use Rattle.row.specs.Row.{wholeRows}
 use Rattle.row.specs.First.{bytesOf}
-use Rattle.row.specs.Reading.{listedFrom}
 use Rattle.joined.specs.Reading.{joined}
 use Rattle.walk.specs.Reading.{placedBetween}
 use Rattle.inline.specs.Rows.{rowEnd}
@@ -22,11 +20,6 @@ use Rattle.buffer.specs.Stored.{Leads}
 use Rattle.page.specs.Reading.{isCode, rowStart, textEnd, text, openTag, Written, paragraphPage, from, here, Bare}
 use Rattle.writer.specs.declared.Pass.{Pass}
 use Rattle.cursor.specs.Cursor.{Behind}
-
--- the definition table t holds the joined list
-pub record Listing (T : Texts) (t : List ℕ) : Type 0 where
-  pub room : length (joined T) ≤ wholeRows t
-  pub rows-are : listedFrom t 0 (length (joined T)) ≡ joined T
 
 -- ---- a paragraph of the note that ends at e
 module _ (T : Texts) (e : ℕ) where

@@ -5,12 +5,12 @@ ghost use Prim.Native.Nat.{_≤_};
 ghost use lib.ListN.{length};
 ghost use Rattle.texts.specs.Texts.{texts};
 ghost use Rattle.row.specs.First.{namedText};
-ghost use Rattle.joined.specs.Reading.{joined};
+ghost use Rattle.joined.specs.Reading.{joined, Listing};
 ghost use Rattle.span.specs.Row.{numbers};
 ghost use Rattle.buffer.specs.Stored.{Writes};
 ghost use Rattle.page.specs.Reading.{pageOf};
 ghost use Rattle.cursor.specs.Spanned.{Spanned};
-ghost use Rattle.writer.specs.Pass.{Listing, Called, Room, Passes, TextAhead, PassesText, Stands, Goes, Starts, Ends};
+ghost use Rattle.writer.specs.Pass.{Called, Room, Passes, TextAhead, PassesText, Stands, Goes, Starts, Ends};
 use span::Span;
 use walk::Paragraph;
 

@@ -2,7 +2,7 @@
 //!
 //! `cases FOLDER` writes the files `stdin` and `stdout` of that folder (crates/samples); `cases
 //! --list` prints a line for each case: its number, what it lends, the lengths of the note, the sheet
-//! and the label, what it is.
+//! and the label, 1 for a release or 0, what it is.
 
 use std::io::{Error, Write};
 use std::path::Path;
@@ -52,6 +52,7 @@ fn list(cases: &[Case]) -> Result<(), Error> {
             case.note.len(),
             case.sheet.len(),
             case.label.len(),
+            usize::from(case.release),
         ];
         let numbers = numbers.map(|number| number.to_string()).join("\t");
         writeln!(out, "{numbers}\t{}", case.name)?;

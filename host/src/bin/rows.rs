@@ -3,7 +3,8 @@
 //! the sheet is a file that is named after it, or empty.
 //!
 //! A refusal is printed as `refusal NUMBER VALUE TEXT` and ends the program with 1. The page is one
-//! quoted string; `--page` as the first argument prints the page alone, as it is.
+//! quoted string; `--page` as the first argument prints the page alone, as it is. With `--release` before
+//! the names the texts are read for a release.
 
 use std::fs::read;
 use std::io::{Error, Read, Write};
@@ -13,26 +14,33 @@ use host::second;
 
 fn main() -> ExitCode {
     let mut arguments: Vec<String> = std::env::args().skip(1).collect();
-    let page_alone = arguments.first().is_some_and(|first| first == "--page");
-    if page_alone {
-        arguments.remove(0);
-    }
+    let page_alone = taken(&mut arguments, "--page");
+    let release = taken(&mut arguments, "--release");
     let texts = match arguments.as_slice() {
         [] => standard_input().map(|note| [note, Vec::new()]),
         [note] => read(note).map(|note| [note, Vec::new()]),
         [note, sheet] => read(note).and_then(|note| Ok([note, read(sheet)?])),
         _ => {
-            eprintln!("usage: rows [--page] [NOTE [SHEET]]");
+            eprintln!("usage: rows [--page] [--release] [NOTE [SHEET]]");
             return ExitCode::from(2);
         }
     };
-    match texts.and_then(|[note, sheet]| print(&note, &sheet, page_alone)) {
+    match texts.and_then(|[note, sheet]| print(&note, &sheet, release, page_alone)) {
         Ok(code) => code,
         Err(error) => {
             eprintln!("rows: {error}");
             ExitCode::from(2)
         }
     }
+}
+
+/// Takes the option away where it is the first argument; whether it is.
+fn taken(arguments: &mut Vec<String>, option: &str) -> bool {
+    let first = arguments.first().is_some_and(|first| first == option);
+    if first {
+        arguments.remove(0);
+    }
+    first
 }
 
 fn standard_input() -> Result<Vec<u8>, Error> {
@@ -42,8 +50,8 @@ fn standard_input() -> Result<Vec<u8>, Error> {
 }
 
 /// Prints the answer for a note and a sheet, as if all memory it needs were lent.
-fn print(note: &[u8], sheet: &[u8], page_alone: bool) -> Result<ExitCode, Error> {
-    let answer = second::render(note, sheet, usize::MAX, usize::MAX, usize::MAX);
+fn print(note: &[u8], sheet: &[u8], release: bool, page_alone: bool) -> Result<ExitCode, Error> {
+    let answer = second::render(note, sheet, release, usize::MAX, usize::MAX, usize::MAX);
     let mut out = std::io::stdout().lock();
     let page = answer.page.unwrap_or_default();
     if page_alone && answer.number == second::number::SUCCESS {

@@ -1,7 +1,8 @@
-//! Short notes by chance, without a sheet and with one, the same in every run.
+//! Short notes by chance, without a sheet and with one, and for a release, the same in every run.
 
 use super::Case;
 use crate::generate::chance::Chance;
+use crate::generate::repeats;
 
 const PARTS: [&str; 28] = [
     "[", "]", "(", ")", "<", ">", "`", "``", "\\", " ", "\n", "\n\n", ":", "\"", "'", "a", "b",
@@ -21,10 +22,14 @@ pub fn cases() -> Vec<Case> {
         let note = text(index / 2, DEFINITIONS, chance);
         by_chance(note).beside(text(index, SHARED, chance))
     }));
+    cases.extend((0..300).map(|_| {
+        let (note, sheet) = repeats::texts(chance);
+        by_chance(note).beside(sheet).for_release()
+    }));
     cases
 }
 
-fn by_chance(note: String) -> Case {
+fn by_chance(note: impl AsRef<[u8]>) -> Case {
     Case::of("by chance", note)
 }
 

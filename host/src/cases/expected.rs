@@ -26,6 +26,7 @@ fn reading(reader: Reader, case: &Case) -> Vec<u8> {
     let answer = reader.read(
         &case.note,
         &case.sheet,
+        case.release,
         case.definition_numbers,
         case.span_numbers,
     );
@@ -43,6 +44,7 @@ fn rendering(reader: Reader, case: &Case) -> Vec<u8> {
     let answer = reader.render(
         &case.note,
         &case.sheet,
+        case.release,
         case.definition_numbers,
         case.span_numbers,
         case.page_bytes,

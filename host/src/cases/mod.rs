@@ -14,6 +14,8 @@ mod limits;
 mod lines;
 mod links;
 mod named;
+pub mod release;
+mod release_refusals;
 mod sheet_refusals;
 mod sheets;
 
@@ -28,8 +30,9 @@ pub const PAGE_ROOM: usize = 40_960;
 /// The room for note, sheet and label, each with a line end.
 pub const TEXT_ROOM: usize = 65_536;
 
-/// One case: what it is, what is lent, the note, the sheet, and the label that is asked for. The note and the
-/// label are compared as two labels, too.
+/// One case: what it is, what is lent, the note, the sheet, the label that is asked for, and whether it is for a
+/// release. The note and the label are compared as two labels, too.
+#[derive(Clone)]
 pub struct Case {
     pub name: String,
     pub definition_numbers: usize,
@@ -38,12 +41,13 @@ pub struct Case {
     pub note: Vec<u8>,
     pub sheet: Vec<u8>,
     pub label: Vec<u8>,
+    pub release: bool,
 }
 
 impl Case {
-    /// A case with an empty sheet that lends enough for the note, and more: a row for each `]:`, for each
-    /// `]` and for each pair of backticks, part of a row, and a page some times as long as a short note. It
-    /// asks for what stands from the first `[` to the next `]`.
+    /// A case with an empty sheet, for no release, that lends enough for the note, and more: a row for each
+    /// `]:`, for each `]` and for each pair of backticks, part of a row, and a page some times as long as a
+    /// short note. It asks for what stands from the first `[` to the next `]`.
     fn of(name: impl Into<String>, note: impl AsRef<[u8]>) -> Case {
         let note = note.as_ref().to_vec();
         let count = |byte: u8| note.iter().filter(|other| **other == byte).count();
@@ -55,6 +59,7 @@ impl Case {
             label: first_bracketed(&note).to_vec(),
             note,
             sheet: Vec::new(),
+            release: false,
         }
     }
 
@@ -101,19 +106,29 @@ impl Case {
         }
     }
 
+    /// The case for a release.
+    fn for_release(self) -> Case {
+        Case {
+            release: true,
+            ..self
+        }
+    }
+
     /// The case in the container: a header line of six numbers of six digits (numbers lent to the
     /// definition table, numbers lent to the span table, bytes lent to the page, bytes of the note,
-    /// of the sheet and of the label), and the note, the sheet and the label, each with a line end.
+    /// of the sheet and of the label) and a digit, 1 for a release and else 0; and the note, the sheet
+    /// and the label, each with a line end.
     fn contained(&self) -> Vec<u8> {
-        let header = format!(
-            "{:06} {:06} {:06} {:06} {:06} {:06}",
+        let numbers = [
             self.definition_numbers,
             self.span_numbers,
             self.page_bytes,
             self.note.len(),
             self.sheet.len(),
-            self.label.len()
-        );
+            self.label.len(),
+        ];
+        let sizes = numbers.map(|number| format!("{number:06}")).join(" ");
+        let header = format!("{sizes} {}", u8::from(self.release));
         let lines = [header.as_bytes(), &self.note, &self.sheet, &self.label];
         lines.map(|line| [line, b"\n"].concat()).concat()
     }
@@ -143,6 +158,8 @@ pub fn all() -> Vec<Case> {
         lending::cases(),
         sheets::cases(),
         sheet_refusals::cases(),
+        release::cases(),
+        release_refusals::cases(),
         enquiries::cases(),
         labels::cases(),
         chance::cases(),

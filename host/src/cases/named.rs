@@ -6,7 +6,7 @@ use crate::sources::examples;
 /// Document 01's "Whole example, 34 bytes".
 pub const WHOLE_EXAMPLE: &str = "[max]: /q2/max \"June\"\n\nUse [max].\n";
 
-/// P1 to P13.
+/// The notes of P1 to P13.
 const SAMPLES: [&str; 13] = [
     "[link]()",
     "[a](<b)c>)",
@@ -23,11 +23,15 @@ const SAMPLES: [&str; 13] = [
     "[foo]: /url\n\"title\" ok",
 ];
 
+/// P1 to P13.
+pub fn samples() -> impl Iterator<Item = Case> {
+    let numbered = SAMPLES.iter().zip(1..);
+    numbered.map(|(note, number)| Case::of(format!("P{number}"), note))
+}
+
 pub fn cases() -> Vec<Case> {
     let mut cases = vec![Case::of("the whole example", WHOLE_EXAMPLE)];
-    for (index, note) in SAMPLES.iter().enumerate() {
-        cases.push(Case::of(format!("P{}", index + 1), note));
-    }
+    cases.extend(samples());
     for example in examples().iter().filter(|example| example.is_base()) {
         cases.push(Case::of(&example.name, &example.note));
     }

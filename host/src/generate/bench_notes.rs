@@ -3,11 +3,13 @@
 use super::chance::Chance;
 use crate::second::LONGEST_NOTE;
 
-/// A note of the benchmark, with its name in the table of figures and the sheet beside it.
+/// A note of the benchmark, with its name in the table of figures, the sheet beside it, and whether it is read for
+/// a release.
 pub struct BenchNote {
     pub name: &'static str,
     pub bytes: Vec<u8>,
     pub sheet: Vec<u8>,
+    pub release: bool,
 }
 
 impl BenchNote {
@@ -16,6 +18,7 @@ impl BenchNote {
             name,
             bytes: note.into_bytes(),
             sheet: sheet.into_bytes(),
+            release: false,
         }
     }
 }
@@ -47,6 +50,10 @@ pub fn of_size(most: usize) -> Vec<BenchNote> {
         references(chance, limits, String::new(), most),
         definitions_of_limits(limits),
     ));
+    notes.push(BenchNote {
+        release: true,
+        ..BenchNote::of("definitions_release", definitions(most), String::new())
+    });
     notes
 }
 
@@ -55,7 +62,7 @@ fn share(count: usize, most: usize) -> usize {
     count * most / LONGEST_NOTE
 }
 
-/// The notes with an empty sheet beside them.
+/// The notes with an empty sheet beside them, for no release.
 fn alone(chance: &mut Chance, most: usize) -> Vec<(&'static str, String)> {
     let share = |count: usize| share(count, most);
     let repeated = |piece: &str| piece.repeat(most / piece.len());

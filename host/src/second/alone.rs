@@ -1,6 +1,7 @@
-//! The answers for a note alone, as they are without the sheet of document 02's request 1: there is one
-//! text, and a definition row has seven numbers. "An empty sheet must give the old answers, where as many
-//! whole definition rows are lent, but for that leading 0 and the text named."
+//! The answers for a note alone, as they are without the sheet of document 02's request 1 and the setting of
+//! request 8: there is one text, a definition row has seven numbers, and conflicts are not judged. "An empty sheet
+//! must give the old answers, where as many whole definition rows are lent, but for that leading 0 and the text
+//! named." For the setting: "With no, all old answers hold."
 
 use std::ops::Range;
 

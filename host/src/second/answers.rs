@@ -29,6 +29,10 @@ pub mod number {
     /// "enquiry: the bytes given, set between `[` and `]`, are not exactly one label, or hold byte
     /// 0 or 13 or ill-formed UTF-8"; with it 0.
     pub const NOT_A_LABEL: u32 = 8;
+    /// For a release: "two definitions with equal labels (in the note, the sheet or one in each) differ in
+    /// destination bytes, title bytes or the presence of a title" (document 02, request 8); with it "the row
+    /// number, from 1, of the first definition that so differs from an earlier one of equal label".
+    pub const CONFLICTING_DEFINITIONS: u32 = 9;
 }
 
 /// What the reader answers, and what it leaves in the lent tables.

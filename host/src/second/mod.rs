@@ -4,17 +4,19 @@
 //! honest method: a text becomes owned strings and lists of characters, the grammar is read by
 //! recursive descent, brackets are matched by counting the pieces between them, labels are compared
 //! by building their compared forms, the definitions of note and sheet become one list, each row's line
-//! is found among the places of its text's LFs, and the page is built as a string. Nothing is shared
-//! with the proved reader. Quoted sentences are document 01's where document 02 is not named.
+//! is found among the places of its text's LFs, conflicting definitions are looked for among all pairs of
+//! the list, and the page is built as a string. Nothing is shared with the proved reader. Quoted sentences
+//! are document 01's where document 02 is not named.
 //!
 //! The rooms: `text` (good characters, parts, the descent), `source` (the two texts), `labels`, `targets`
-//! (destinations and titles), `definitions`, `marking` and `tails`, `rows`, `page`, `answers`. [`alone`]
-//! gives the answers for a note without a sheet. A [`Reader`] can be told to misread one rule (`wrong`);
-//! a test uses that to show what the stored cases tell apart. The functions [`read`], [`render`],
-//! [`resolve`] and [`same_label`] are the right reading.
+//! (destinations and titles), `definitions`, `conflicts`, `marking` and `tails`, `rows`, `page`, `answers`.
+//! [`alone`] gives the answers for a note without a sheet, and not for a release. A [`Reader`] can be told
+//! to misread one rule (`wrong`); a test uses that to show what the stored cases tell apart. The functions
+//! [`read`], [`render`], [`resolve`] and [`same_label`] are the right reading.
 
 pub mod alone;
 mod answers;
+mod conflicts;
 mod definitions;
 mod labels;
 mod marking;
@@ -39,26 +41,36 @@ use definitions::Definition;
 use marking::{mark_each, Marking};
 use source::Source;
 
-/// "The reader takes a note, a definition table and a span table", and the sheet "lent beside every
-/// notice" (document 02, request 1). The tables are told by how many numbers are lent in each.
+/// "The reader takes a note, a definition table and a span table", the sheet "lent beside every notice"
+/// (document 02, request 1), and "a yes-or-no "release" setting" (request 8). The tables are told by how many
+/// numbers are lent in each.
 pub fn read(
     note: &[u8],
     sheet: &[u8],
+    release: bool,
     definition_numbers: usize,
     span_numbers: usize,
 ) -> ReadAnswer {
-    Reader::RIGHT.read(note, sheet, definition_numbers, span_numbers)
+    Reader::RIGHT.read(note, sheet, release, definition_numbers, span_numbers)
 }
 
 /// "The page writer takes these and a page buffer." The buffer is told by how many bytes are lent.
 pub fn render(
     note: &[u8],
     sheet: &[u8],
+    release: bool,
     definition_numbers: usize,
     span_numbers: usize,
     page_bytes: usize,
 ) -> RenderAnswer {
-    Reader::RIGHT.render(note, sheet, definition_numbers, span_numbers, page_bytes)
+    Reader::RIGHT.render(
+        note,
+        sheet,
+        release,
+        definition_numbers,
+        span_numbers,
+        page_bytes,
+    )
 }
 
 /// "The enquiry takes a note and a label without its brackets, and finds the destination", in the note or
@@ -77,6 +89,7 @@ impl Reader {
         self,
         note: &[u8],
         sheet: &[u8],
+        release: bool,
         definition_numbers: usize,
         span_numbers: usize,
     ) -> ReadAnswer {
@@ -85,13 +98,14 @@ impl Reader {
             span_numbers,
             page_bytes: None,
         };
-        self.answer(note, sheet, lent).without_page()
+        self.answer(note, sheet, release, lent).without_page()
     }
 
     pub fn render(
         self,
         note: &[u8],
         sheet: &[u8],
+        release: bool,
         definition_numbers: usize,
         span_numbers: usize,
         page_bytes: usize,
@@ -101,23 +115,27 @@ impl Reader {
             span_numbers,
             page_bytes: Some(page_bytes),
         };
-        self.answer(note, sheet, lent)
+        self.answer(note, sheet, release, lent)
     }
 
-    fn answer(self, note: &[u8], sheet: &[u8], lent: Lent) -> RenderAnswer {
+    fn answer(self, note: &[u8], sheet: &[u8], release: bool, lent: Lent) -> RenderAnswer {
         let [note, sheet] = self.misread_texts(note, sheet);
         let mut left = Left::default();
-        let given = self.write(&note, &sheet, lent, &mut left);
-        self.misread_answer(RenderAnswer::of(given, left), lent)
+        let given = self.write(&note, &sheet, release, lent, &mut left);
+        let answer = RenderAnswer::of(given, left);
+        let answer = self.misread_release(answer, [&note, &sheet], release, lent);
+        self.misread_answer(answer, lent)
     }
 
     /// Writes what there is room for: "The first that applies, in order 1 to 6, is the answer; the
     /// reader gives 1 to 5, the page writer 1 to 6." "After 1, 2, 3 all lent memory is unchanged."
-    /// The sheet's "own paragraphs are ignored" (document 02, request 1).
+    /// Refusal 9 is "Checked after 3, definition table filled, span table and page unchanged" (document 02,
+    /// request 8). The sheet's "own paragraphs are ignored" (request 1).
     fn write(
         self,
         note: &[u8],
         sheet: &[u8],
+        release: bool,
         lent: Lent,
         left: &mut Left,
     ) -> Result<Counts, Refusal> {
@@ -132,6 +150,7 @@ impl Reader {
             self.check_depth(&mark_note())?;
         }
         let definitions = self.write_definitions(&joined, lent, left)?;
+        self.check_conflicts(&joined, release)?;
         let mut markings = mark_note();
         if self.reads_paragraphs_of_sheet() {
             markings.extend(mark_each(&sheet, &shared.paragraphs, &joined));
@@ -259,6 +278,9 @@ impl Reader {
         let joined = self.joined(own.definitions, shared.definitions);
         if self.misreads(Wrong::EnquiryRefusesDeep) {
             self.check_depth(&mark_each(&note, &own.paragraphs, &joined))?;
+        }
+        if self.misreads(Wrong::EnquiryRefusesConflicts) {
+            self.check_conflicts(&joined, true)?;
         }
         match self.look_up(&joined, label) {
             Some(found) => {

@@ -2,6 +2,7 @@
 
 use crate::compare::{self, Lending, Named, Texts};
 use crate::named::must;
+use crate::settings;
 use host::second::{DEFINITION_ROW_WIDTH, SPAN_ROW_WIDTH};
 
 /// Lendings for texts that are refused whatever is lent: nothing, parts of a row, rows.
@@ -63,12 +64,14 @@ const BOUNDS: &[u8] = &[
     0xed, 0xee, 0xef, 0xf0, 0xf1, 0xf3, 0xf4, 0xf5, 0xff,
 ];
 
-/// Through all three entries; returns what the reader answers with enough lent.
+/// Through all three entries, the reader for a release, the page writer for none; returns what the reader answers
+/// with enough lent.
 pub fn compare_texts(texts: Texts, label: &[u8]) -> Named {
     let mut named = must(texts, compare::resolve(texts, label));
     for lending in LENDINGS {
-        named = must(texts, compare::read(texts, lending));
-        must(texts, compare::render(texts, lending));
+        named = must(texts, compare::read(texts, true, lending));
+        must(texts, compare::render(texts, false, lending));
+        must(texts, settings::compare(texts, lending));
     }
     named
 }
@@ -93,7 +96,7 @@ fn lengths() {
     // Each takes the second reader long, so once only.
     for byte in [b'`', b']'] {
         let note = vec![byte; 32_768];
-        compare::render(Texts::alone(&note), LENDINGS[2]).unwrap();
+        compare::render(Texts::alone(&note), true, LENDINGS[2]).unwrap();
     }
 }
 
@@ -174,8 +177,8 @@ fn every_text(bytes: &[u8], length: u32) {
             note: b"",
             sheet: &text,
         };
-        let compared = compare::read(Texts::alone(&text), LENDINGS[0])
-            .and_then(|_| compare::read(beside, LENDINGS[0]))
+        let compared = compare::read(Texts::alone(&text), false, LENDINGS[0])
+            .and_then(|_| compare::read(beside, true, LENDINGS[0]))
             .and_then(|_| compare::resolve(Texts::alone(b"[a]: b"), &text));
         compared.unwrap_or_else(|what| panic!("{text:x?}\n{what}"));
     }

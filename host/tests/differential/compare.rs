@@ -99,26 +99,27 @@ impl Tables {
     }
 }
 
-/// The reader. With an empty sheet the answer is held against the one for the note alone.
-pub fn read(texts: Texts, lending: Lending) -> Compared {
+/// The reader. With an empty sheet, and for no release, the answer is held against the one for the note alone.
+pub fn read(texts: Texts, release: bool, lending: Lending) -> Compared {
     let Texts { note, sheet } = texts;
     let Lending {
         definition_numbers,
         span_numbers,
         ..
     } = lending;
-    let wanted = if sheet.is_empty() {
+    let wanted = if sheet.is_empty() && !release {
         let numbers = lending.definition_numbers_alone();
         let old = alone::read(note, numbers, span_numbers);
         old.with_empty_sheet().without_page()
     } else {
-        second::read(note, sheet, definition_numbers, span_numbers)
+        second::read(note, sheet, release, definition_numbers, span_numbers)
     };
     let mut lent = Read::lent(texts);
     let mut tables = Tables::lent(lending);
     let given = entries::read(
         lent.note.part(),
         lent.sheet.part(),
+        release,
         tables.definitions.part(),
         tables.spans.part(),
     );
@@ -131,19 +132,20 @@ pub fn read(texts: Texts, lending: Lending) -> Compared {
     same(&given, &reading(&wanted))
         .and_then(|()| lent.same(texts))
         .and_then(|()| tables.same(after))
-        .map_err(|what| format!("read with {lending:?}\n{what}"))?;
+        .map_err(|what| format!("read with {lending:?}, release {release}\n{what}"))?;
     Ok(named(wanted.number, wanted.text))
 }
 
 /// The page writer, likewise.
-pub fn render(texts: Texts, lending: Lending) -> Compared {
-    let wanted = wanted_rendering(texts, lending);
+pub fn render(texts: Texts, release: bool, lending: Lending) -> Compared {
+    let wanted = wanted_rendering(texts, release, lending);
     let mut lent = Read::lent(texts);
     let mut tables = Tables::lent(lending);
     let mut page = Lent::of(lending.page_bytes, byte_guard);
     let given = entries::render(
         lent.note.part(),
         lent.sheet.part(),
+        release,
         tables.definitions.part(),
         tables.spans.part(),
         page.part(),
@@ -158,26 +160,33 @@ pub fn render(texts: Texts, lending: Lending) -> Compared {
         .and_then(|()| lent.same(texts))
         .and_then(|()| tables.same(after))
         .and_then(|()| page.same("page", &wanted.page_buffer(page.before())))
-        .map_err(|what| format!("render with {lending:?}\n{what}"))?;
+        .map_err(|what| format!("render with {lending:?}, release {release}\n{what}"))?;
     Ok(named(wanted.number, wanted.text))
 }
 
-fn wanted_rendering(texts: Texts, lending: Lending) -> RenderAnswer {
+fn wanted_rendering(texts: Texts, release: bool, lending: Lending) -> RenderAnswer {
     let Texts { note, sheet } = texts;
     let Lending {
         definition_numbers,
         span_numbers,
         page_bytes,
     } = lending;
-    if sheet.is_empty() {
+    if sheet.is_empty() && !release {
         let numbers = lending.definition_numbers_alone();
         let old = alone::render(note, numbers, span_numbers, page_bytes);
         return old.with_empty_sheet();
     }
-    second::render(note, sheet, definition_numbers, span_numbers, page_bytes)
+    second::render(
+        note,
+        sheet,
+        release,
+        definition_numbers,
+        span_numbers,
+        page_bytes,
+    )
 }
 
-/// The enquiry, likewise.
+/// The enquiry, likewise; it knows no release.
 pub fn resolve(texts: Texts, label: &[u8]) -> Compared {
     let Texts { note, sheet } = texts;
     let wanted = if sheet.is_empty() {

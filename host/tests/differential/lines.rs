@@ -62,7 +62,8 @@ fn every_number_of_rows() {
             span_numbers: rows * SPAN_ROW_WIDTH,
             ..exactly
         });
-        let came_up = compare_with(texts, &definitions.chain(spans).collect::<Vec<_>>());
+        let tables: Vec<Lending> = definitions.chain(spans).collect();
+        let came_up = compare_with(texts, false, &tables);
         assert_eq!(came_up[3], need.definitions.len());
         assert_eq!(came_up[5], need.spans.len());
         assert_eq!(came_up[0], 4);

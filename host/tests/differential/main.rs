@@ -1,10 +1,10 @@
 //! The proved library, through its exported entries, against the second reader: answer numbers,
 //! values, counts and texts, both tables and the page whole, with the guards around them. Where the sheet
-//! is empty, what is wanted are the second reader's answers for the note alone.
+//! is empty and it is for no release, what is wanted are the second reader's answers for the note alone.
 //!
 //! Random notes are the same in every run. Two environment variables change that:
 //! - `NOTICE_DIFFERENTIAL_NOTES=N`: so many random notes alone (600,000 if not given), as many beside
-//!   random sheets, and as many pairs of labels;
+//!   random sheets, a third as many of repeats, and as many pairs of labels;
 //! - `NOTICE_DIFFERENTIAL_SEED=S`: another seed (1 if not given).
 //!
 //! A longer run: `NOTICE_DIFFERENTIAL_NOTES=20000000 NOTICE_DIFFERENTIAL_SEED=2 cargo test
@@ -19,6 +19,9 @@ mod lines;
 mod named;
 mod random;
 mod raw;
+mod raw_tables;
+mod release;
+mod settings;
 mod sheets;
 mod shrink;
 mod stretches;

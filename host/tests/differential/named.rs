@@ -2,6 +2,7 @@
 //! with tables and pages of every size near the need.
 
 use crate::compare::{self, Lending, Texts};
+use crate::settings;
 use crate::trial::{label_of, Need};
 use host::cases;
 use host::generate::bench_notes::{self, BenchNote};
@@ -56,13 +57,16 @@ fn lendings_one_by_one(exactly: Lending) -> Vec<Lending> {
     one_off.collect()
 }
 
-/// Through the reader and the page writer with each lending; returns what came up, by number.
-pub fn compare_with(texts: Texts, lendings: &[Lending]) -> [usize; 7] {
-    let mut came_up = [0; 7];
+/// How often each number came up.
+pub type CameUp = [usize; 10];
+
+/// Through the reader and the page writer with each lending; returns what came up.
+pub fn compare_with(texts: Texts, release: bool, lendings: &[Lending]) -> CameUp {
+    let mut came_up = [0; 10];
     for lending in lendings {
-        let named = must(texts, compare::render(texts, *lending));
+        let named = must(texts, compare::render(texts, release, *lending));
         came_up[named.number as usize] += 1;
-        must(texts, compare::read(texts, *lending));
+        must(texts, compare::read(texts, release, *lending));
     }
     came_up
 }
@@ -82,11 +86,12 @@ pub fn compare_enquiries(texts: Texts, need: &Need) {
     resolve(b"");
 }
 
-/// Short texts at every size near the need.
-pub fn compare_at_every_size(texts: Texts) -> [usize; 7] {
+/// Short texts at every size near the need; returns what came up for no release, and for one.
+pub fn compare_at_every_size(texts: Texts) -> [CameUp; 2] {
     let need = Need::of(texts);
     compare_enquiries(texts, &need);
-    compare_with(texts, &lendings(need.exactly()))
+    let near = lendings(need.exactly());
+    [false, true].map(|release| compare_with(texts, release, &near))
 }
 
 #[test]
@@ -94,16 +99,19 @@ fn base_examples_at_every_size() {
     let mut examples = examples();
     examples.retain(Example::is_base);
     assert_eq!(examples.len(), 229);
-    let mut refusals = [0; 7];
+    let mut refusals = [[0; 10]; 2];
     for example in examples {
         let came_up = compare_at_every_size(Texts::alone(example.note.as_bytes()));
-        for (sum, more) in refusals.iter_mut().zip(came_up) {
-            *sum += more;
-        }
+        let sums = refusals.iter_mut().flatten();
+        sums.zip(came_up.concat())
+            .for_each(|(sum, more)| *sum += more);
     }
-    for number in [0, 3, 5, 6] {
-        assert!(refusals[number] > 100, "refusals by number {refusals:?}");
+    for came_up in refusals {
+        let often = [0, 3, 5, 6].map(|number| came_up[number] > 100);
+        assert_eq!(often, [true; 4], "refusals by number {refusals:?}");
     }
+    let [without, released] = refusals.map(|came_up| came_up[9]);
+    assert!(without == 0 && released > 100, "{without}, {released}");
 }
 
 #[test]
@@ -122,18 +130,20 @@ fn cases_of_the_samples() {
             span_numbers: case.span_numbers,
             page_bytes: case.page_bytes,
         });
-        // Hard texts take the second reader long.
-        let short = case.note.len() + case.sheet.len() <= 2_000;
-        let most = if short { all.len() } else { 1 };
-        compare_with(texts, &all[all.len() - most..]);
+        let own = all.len() - 1;
+        compare_with(texts, case.release, &all[own..]);
         must(texts, compare::resolve(texts, &case.label));
-        if short {
+        // Hard texts take the second reader long.
+        if case.note.len() + case.sheet.len() <= 2_000 {
+            compare_with(texts, false, &all[..own]);
+            compare_with(texts, true, &all[..own]);
             compare_enquiries(texts, &need);
         }
     }
 }
 
-/// Texts through all three entries with part of a row more than they need.
+/// Texts through all three entries with part of a row more than they need: the reader for a release, the page
+/// writer for none.
 pub fn compare_long(texts: Texts) -> Need {
     let need = Need::of(texts);
     let exactly = need.exactly();
@@ -142,8 +152,9 @@ pub fn compare_long(texts: Texts) -> Need {
         span_numbers: exactly.span_numbers + SPAN_ROW_WIDTH - 1,
         page_bytes: exactly.page_bytes + 1,
     };
-    must(texts, compare::read(texts, more));
-    must(texts, compare::render(texts, more));
+    must(texts, compare::read(texts, true, more));
+    must(texts, compare::render(texts, false, more));
+    must(texts, settings::compare(texts, more));
     let last = need.definitions.last();
     let label = last.map_or(&texts.note[..1], |row| label_of(texts, row));
     must(texts, compare::resolve(texts, label));
@@ -157,7 +168,10 @@ pub fn compare_long_note(note: &[u8]) -> Need {
 
 #[test]
 fn notes_of_the_benchmark() {
-    for BenchNote { name, bytes, sheet } in &bench_notes::all() {
+    for BenchNote {
+        name, bytes, sheet, ..
+    } in &bench_notes::all()
+    {
         assert!(bytes.len().max(sheet.len()) <= LONGEST_NOTE, "{name}");
         compare_long(Texts { note: bytes, sheet });
     }
@@ -187,6 +201,6 @@ fn longest_notes() {
             page_bytes: exactly.page_bytes.saturating_sub(1),
             ..exactly
         };
-        must(texts, compare::render(texts, short_page));
+        must(texts, compare::render(texts, true, short_page));
     }
 }

@@ -1,11 +1,11 @@
-//! Random notes, alone and beside random sheets, and every short note over a few marks.
+//! Random notes, alone and beside random sheets, some of many repeats, and every short note over a few marks.
 
 use crate::compare::Texts;
 use crate::shrink::shrunk;
 use crate::trial::{self, Tally};
 use host::generate::alphabets::ALPHABETS;
 use host::generate::chance::Chance;
-use host::generate::{grammar, sheets};
+use host::generate::{grammar, repeats, sheets};
 
 /// How many random notes there are alone, and how many beside a sheet, and the seed, if the environment names
 /// no other.
@@ -134,6 +134,14 @@ fn notes_from_the_grammar_beside_sheets() {
         sheets::beside(grammar::note, chance)
     });
     settle_sheets(&tally, notes);
+}
+
+#[test]
+fn notes_of_repeats() {
+    let notes = notes() / 3;
+    let mut tally = Tally::default();
+    run("repeats", notes, &mut tally, repeats::texts);
+    tally.assert_stopped(notes as usize / 40);
 }
 
 /// Every text of up to `most` bytes of the marks, behind `start`, with its index.

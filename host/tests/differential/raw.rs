@@ -1,22 +1,21 @@
 //! The entries as C sees them: every number of the answer is stored, none beside it, and an empty
-//! buffer may be a null pointer.
+//! buffer may be a null pointer. Here the enquiry and the comparison; `raw_tables` has the other two.
 
 #![allow(unsafe_code)]
 
-use host::entries::raw::{notice_read, notice_render, notice_resolve, notice_same_label};
-use host::second::{self, DEFINITION_ROW_WIDTH, SPAN_ROW_WIDTH};
+use host::entries::raw::{notice_resolve, notice_same_label};
+use host::second;
 use std::ptr::{null, null_mut};
 
 /// No number of any answer.
 const GUARD: u64 = u64::MAX;
-const NOTE: &[u8] = b"[a]: /x\n[b]: <>\n\n`c` [a]\n";
-const SHEET: &[u8] = b"text\n\n[d]: /s 't'\n";
-/// The numbers of their rows.
-const DEFINITIONS: usize = 3 * DEFINITION_ROW_WIDTH;
-const SPANS: usize = 2 * SPAN_ROW_WIDTH;
+pub const NOTE: &[u8] = b"[a]: /x\n[b]: <>\n\n`c` [a]\n";
+pub const SHEET: &[u8] = b"text\n\n[d]: /s 't'\n";
 
 /// Calls with an answer between guards; returns the number and what is stored.
-fn guarded<const COUNT: usize>(call: impl Fn(*mut [u64; COUNT]) -> u32) -> (u32, [u64; COUNT]) {
+pub fn guarded<const COUNT: usize>(
+    call: impl FnOnce(*mut [u64; COUNT]) -> u32,
+) -> (u32, [u64; COUNT]) {
     let mut room = [[GUARD; COUNT]; 3];
     let number = call(&mut room[1]);
     assert_eq!((room[0], room[2]), ([GUARD; COUNT], [GUARD; COUNT]));
@@ -24,7 +23,7 @@ fn guarded<const COUNT: usize>(call: impl Fn(*mut [u64; COUNT]) -> u32) -> (u32,
 }
 
 /// The pointer that lends a part to be written: null where nothing is lent.
-fn lent<T>(part: &mut [T]) -> *mut T {
+pub fn lent<T>(part: &mut [T]) -> *mut T {
     if part.is_empty() {
         null_mut()
     } else {
@@ -33,140 +32,12 @@ fn lent<T>(part: &mut [T]) -> *mut T {
 }
 
 /// The pointer that lends bytes to be read, likewise.
-fn read_only(bytes: &[u8]) -> *const u8 {
+pub fn read_only(bytes: &[u8]) -> *const u8 {
     if bytes.is_empty() {
         null()
     } else {
         bytes.as_ptr()
     }
-}
-
-/// A note and a sheet with the numbers lent to each table and the page.
-struct Given {
-    note: Vec<u8>,
-    sheet: Vec<u8>,
-    lent: [usize; 3],
-}
-
-impl Given {
-    fn of(note: &[u8], sheet: &[u8], lent: [usize; 3]) -> Given {
-        Given {
-            note: note.to_vec(),
-            sheet: sheet.to_vec(),
-            lent,
-        }
-    }
-}
-
-/// One or more for each answer about each text.
-fn given() -> Vec<Given> {
-    let deep = [NOTE, &[b'['; 1_025]].concat();
-    let long = [b'a'; 32_769];
-    let all = [DEFINITIONS, SPANS, 41];
-    vec![
-        Given::of(b"", b"", [0, 0, 0]),
-        Given::of(&long, b"\r", [0, 0, 0]),
-        Given::of(b"ab\r", &long, [0, 0, 0]),
-        Given::of(b"", &long, [0, 0, 0]),
-        Given::of(NOTE, b"abc\r", all),
-        Given::of(NOTE, SHEET, [0, 0, 0]),
-        Given::of(&deep, SHEET, [DEFINITIONS, 0, 0]),
-        Given::of(NOTE, SHEET, [DEFINITIONS, 0, 0]),
-        Given::of(NOTE, SHEET, [DEFINITIONS, SPANS, 0]),
-        Given::of(NOTE, SHEET, all),
-        Given::of(NOTE, b"", all),
-        Given::of(b"", SHEET, all),
-    ]
-}
-
-/// The numbers and the texts of the answers.
-const CAME_UP: [(u32, usize); 12] = [
-    (0, 0),
-    (1, 0),
-    (2, 0),
-    (1, 1),
-    (2, 1),
-    (3, 0),
-    (4, 0),
-    (5, 0),
-    (6, 0),
-    (0, 0),
-    (0, 0),
-    (0, 0),
-];
-
-#[test]
-fn answers_of_the_reader() {
-    for Given {
-        note,
-        sheet,
-        lent: sizes,
-    } in given()
-    {
-        let [definition_numbers, span_numbers, _] = sizes;
-        let wanted = second::read(&note, &sheet, definition_numbers, span_numbers);
-        // SAFETY: each pointer and length is a vector's own, or null and 0.
-        let given = guarded(|answer| unsafe {
-            notice_read(
-                read_only(&note),
-                note.len(),
-                read_only(&sheet),
-                sheet.len(),
-                lent(&mut vec![0; definition_numbers]),
-                definition_numbers,
-                lent(&mut vec![0; span_numbers]),
-                span_numbers,
-                answer,
-            )
-        });
-        let numbers = [
-            wanted.value,
-            wanted.definition_count,
-            wanted.span_count,
-            wanted.text,
-        ];
-        assert_eq!(given, (wanted.number, numbers.map(|number| number as u64)));
-    }
-}
-
-#[test]
-fn answers_of_the_page_writer() {
-    let mut came_up = Vec::new();
-    for Given {
-        note,
-        sheet,
-        lent: sizes,
-    } in given()
-    {
-        let [definition_numbers, span_numbers, page_bytes] = sizes;
-        let wanted = second::render(&note, &sheet, definition_numbers, span_numbers, page_bytes);
-        // SAFETY: each pointer and length is a vector's own, or null and 0.
-        let given = guarded(|answer| unsafe {
-            notice_render(
-                read_only(&note),
-                note.len(),
-                read_only(&sheet),
-                sheet.len(),
-                lent(&mut vec![0; definition_numbers]),
-                definition_numbers,
-                lent(&mut vec![0; span_numbers]),
-                span_numbers,
-                lent(&mut vec![0; page_bytes]),
-                page_bytes,
-                answer,
-            )
-        });
-        let numbers = [
-            wanted.value,
-            wanted.definition_count,
-            wanted.span_count,
-            wanted.page_length,
-            wanted.text,
-        ];
-        assert_eq!(given, (wanted.number, numbers.map(|number| number as u64)));
-        came_up.push((wanted.number, wanted.text));
-    }
-    assert_eq!(came_up, CAME_UP);
 }
 
 /// The enquiry's answer through the entry as C sees it.

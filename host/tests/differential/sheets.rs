@@ -79,7 +79,7 @@ fn the_second_reader_with_an_empty_sheet() {
         let [rows, numbers, bytes] = [index % 4, 9 * (index % 7), 60 * (index % 5)];
         let old = alone::render(note, rows * alone::DEFINITION_ROW_WIDTH, numbers, bytes);
         let definition_numbers = rows * second::DEFINITION_ROW_WIDTH;
-        let new = second::render(note, b"", definition_numbers, numbers, bytes);
+        let new = second::render(note, b"", false, definition_numbers, numbers, bytes);
         assert_eq!(new, old.with_empty_sheet());
         let old = alone::resolve(note, b"a b").with_empty_sheet();
         assert_eq!(second::resolve(note, b"", b"a b"), old);
@@ -215,7 +215,7 @@ fn tables_near_the_joined_count() {
             let need = Need::of(texts);
             assert_eq!(need.definitions.len(), own + shared);
             let tables: Vec<_> = definition_tables(&need).collect();
-            let came_up = compare_with(texts, &tables);
+            let came_up = compare_with(texts, false, &tables);
             assert_eq!((came_up[3], came_up[0]), (own + shared, 2));
             compare_at_every_size(texts);
         }
@@ -256,7 +256,14 @@ fn library(texts: Texts) -> (entries::Rendering, [Vec<u32>; 2], Vec<u8>) {
     let mut tables = [vec![0; 1_024], vec![0; 1_024]];
     let mut page = vec![0; 8_192];
     let [definitions, spans] = &mut tables;
-    let answer = entries::render(texts.note, texts.sheet, definitions, spans, &mut page);
+    let answer = entries::render(
+        texts.note,
+        texts.sheet,
+        false,
+        definitions,
+        spans,
+        &mut page,
+    );
     (answer, tables, page)
 }
 
@@ -329,7 +336,7 @@ fn sheets_by_chance() {
     for index in 0..40_000 {
         let chance: &mut Chance = &mut random::chance(index);
         let (note, sheet) = sheets::beside(grammar::note, chance);
-        let answer = second::read(&note, &sheet, usize::MAX, usize::MAX);
+        let answer = second::read(&note, &sheet, false, usize::MAX, usize::MAX);
         refused += usize::from(answer.text == 1);
         longest += usize::from(sheet.len() == LONGEST_NOTE);
         let rows = answer.definition_rows.unwrap_or_default();

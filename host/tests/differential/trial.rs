@@ -1,6 +1,7 @@
-//! A note and a sheet through the three entries, with what is lent and asked chosen by chance.
+//! A note and a sheet through the three entries, with the setting, what is lent and what is asked chosen by chance.
 
 use crate::compare::{self, Compared, Lending, Texts};
+use crate::settings;
 use host::generate::chance::Chance;
 use host::generate::grammar;
 use host::second::{self, DefinitionRow, SpanRow, DEFINITION_ROW_WIDTH, SPAN_ROW_WIDTH};
@@ -16,7 +17,7 @@ impl Need {
     /// By the second reader; nothing where a refusal hides it.
     pub fn of(texts: Texts) -> Need {
         let Texts { note, sheet } = texts;
-        let answer = second::render(note, sheet, usize::MAX, usize::MAX, usize::MAX);
+        let answer = second::render(note, sheet, false, usize::MAX, usize::MAX, usize::MAX);
         Need {
             definitions: answer.definition_rows.unwrap_or_default(),
             spans: answer.span_rows.unwrap_or_default(),
@@ -114,7 +115,7 @@ fn label_by_chance(chance: &mut Chance) -> Vec<u8> {
 }
 
 /// How often each number was answered about each text.
-type Numbers = [[usize; 9]; 2];
+type Numbers = [[usize; 10]; 2];
 
 /// What came up over many trials.
 #[derive(Default)]
@@ -135,9 +136,9 @@ impl Tally {
         let from =
             |numbers: &[usize], list: &[usize]| list.iter().all(|number| numbers[*number] >= least);
         let [reader, writer, enquiry] = [&self.reader, &self.writer, &self.enquiry];
-        assert!(from(&reader[0], &[0, 2, 3, 4, 5]), "reader {reader:?}");
+        assert!(from(&reader[0], &[0, 2, 3, 4, 5, 9]), "reader {reader:?}");
         assert!(
-            from(&writer[0], &[0, 2, 3, 4, 5, 6]),
+            from(&writer[0], &[0, 2, 3, 4, 5, 6, 9]),
             "page writer {writer:?}"
         );
         assert!(from(&enquiry[0], &[0, 2, 7, 8]), "enquiry {enquiry:?}");
@@ -167,6 +168,13 @@ impl Tally {
         );
     }
 
+    /// Releases were stopped.
+    pub fn assert_stopped(&self, least: usize) {
+        let [reader, writer] = [&self.reader, &self.writer].map(|of| of[0]);
+        assert!(reader[9] >= least, "reader {reader:?}");
+        assert!(writer[9] >= least, "page writer {writer:?}");
+    }
+
     /// Counts the rows of a note and a sheet.
     fn count_rows(&mut self, texts: Texts, need: &Need) {
         let mut count = |line: u32, first: usize, part: &[u8]| {
@@ -189,15 +197,18 @@ impl Tally {
     }
 }
 
-/// All comparisons of a note and a sheet; the variant chooses what is lent and which labels are asked for.
+/// All comparisons of a note and a sheet; the variant chooses the setting, what is lent and which labels are
+/// asked for.
 pub fn compare(texts: Texts, variant: u64, tally: &mut Tally) -> Result<(), String> {
     let chance = &mut Chance::from_seed(variant);
     let need = Need::of(texts);
     tally.count_rows(texts, &need);
-    let lending = need.by_chance(chance);
-    count(&mut tally.writer, compare::render(texts, lending))?;
-    let lending = need.by_chance(chance);
-    count(&mut tally.reader, compare::read(texts, lending))?;
+    let (release, lending) = (chance.once_in(2), need.by_chance(chance));
+    count(&mut tally.writer, compare::render(texts, release, lending))?;
+    settings::compare(texts, lending)?;
+    let (release, lending) = (chance.once_in(2), need.by_chance(chance));
+    count(&mut tally.reader, compare::read(texts, release, lending))?;
+    settings::compare(texts, lending)?;
     for _ in 0..2 {
         let label = need.label(texts, chance);
         count(&mut tally.enquiry, compare::resolve(texts, &label))?;

@@ -1,6 +1,7 @@
 //! The edges of document 01 against the second reader. Rows and numbers were computed by hand from
 //! document 01, lines and what a sheet adds from document 02; where the reader disagreed, they were counted
-//! again from the note. But for those of `sheets` the notes are read beside an empty sheet.
+//! again from the note. But for those of `sheets` the notes are read beside an empty sheet, and but for those of
+//! `release` for no release.
 
 mod bench;
 mod blocks;
@@ -11,6 +12,7 @@ mod lines;
 mod markings;
 mod pages;
 mod refusals;
+mod release;
 mod sheets;
 
 use host::second::{self, DefinitionRow, ReadAnswer, RenderAnswer, ResolveAnswer, SpanRow};
@@ -18,12 +20,12 @@ use host::second::{DEFINITION_ROW_WIDTH, SPAN_ROW_WIDTH};
 
 /// The reader with more lent than any note needs.
 fn read(note: &[u8]) -> ReadAnswer {
-    second::read(note, b"", usize::MAX, usize::MAX)
+    second::read(note, b"", false, usize::MAX, usize::MAX)
 }
 
 /// The page writer with more lent than any note needs.
 fn render(note: &[u8]) -> RenderAnswer {
-    second::render(note, b"", usize::MAX, usize::MAX, usize::MAX)
+    second::render(note, b"", false, usize::MAX, usize::MAX, usize::MAX)
 }
 
 /// The enquiry.
@@ -81,6 +83,7 @@ fn check_beside(
         second::render(
             note_bytes,
             sheet_bytes,
+            false,
             definition_numbers,
             span_numbers,
             html.len()
@@ -89,7 +92,13 @@ fn check_beside(
         "{note:?}"
     );
     assert_eq!(
-        second::read(note_bytes, sheet_bytes, definition_numbers, span_numbers),
+        second::read(
+            note_bytes,
+            sheet_bytes,
+            false,
+            definition_numbers,
+            span_numbers
+        ),
         rendered.without_page(),
         "{note:?}"
     );

@@ -30,16 +30,19 @@ fn refusals_in_order() {
 
     // Everything is wrong; then one thing after another is put right.
     assert_eq!(
-        second::read(too_long.as_bytes(), b"", 0, 0),
+        second::read(too_long.as_bytes(), b"", false, 0, 0),
         refused(1, 32_769)
     );
     assert_eq!(
-        second::read(ill_formed.as_bytes(), b"", 0, 0),
+        second::read(ill_formed.as_bytes(), b"", false, 0, 0),
         refused(2, 20 + 1_025)
     );
-    assert_eq!(second::read(deep.as_bytes(), b"", 0, 0), refused(3, 2));
     assert_eq!(
-        second::read(deep.as_bytes(), b"", DEFINITIONS - 1, 0),
+        second::read(deep.as_bytes(), b"", false, 0, 0),
+        refused(3, 2)
+    );
+    assert_eq!(
+        second::read(deep.as_bytes(), b"", false, DEFINITIONS - 1, 0),
         refused(3, 2)
     );
     let with_definitions = |number, value| ReadAnswer {
@@ -47,19 +50,19 @@ fn refusals_in_order() {
         ..refused(number, value)
     };
     assert_eq!(
-        second::read(deep.as_bytes(), b"", DEFINITIONS, 0),
+        second::read(deep.as_bytes(), b"", false, DEFINITIONS, 0),
         with_definitions(4, 20 + 1_024)
     );
     assert_eq!(
-        second::read(NOTE.as_bytes(), b"", DEFINITIONS, 0),
+        second::read(NOTE.as_bytes(), b"", false, DEFINITIONS, 0),
         with_definitions(5, 2)
     );
     assert_eq!(
-        second::read(NOTE.as_bytes(), b"", DEFINITIONS, SPANS - 1),
+        second::read(NOTE.as_bytes(), b"", false, DEFINITIONS, SPANS - 1),
         with_definitions(5, 2)
     );
     assert_eq!(
-        second::read(NOTE.as_bytes(), b"", DEFINITIONS, SPANS).number,
+        second::read(NOTE.as_bytes(), b"", false, DEFINITIONS, SPANS).number,
         0
     );
 }
@@ -88,31 +91,43 @@ fn refusals_of_the_page_writer() {
         ..refused(number, value)
     };
     let long = vec![0; 32_769];
-    assert_eq!(second::render(&long, b"", 0, 0, 0), refused(1, 32_769));
-    assert_eq!(second::render(&long[..9], b"", 0, 0, 0), refused(2, 0));
     assert_eq!(
-        second::render(deep.as_bytes(), b"", DEFINITIONS - 1, 0, 0),
+        second::render(&long, b"", false, 0, 0, 0),
+        refused(1, 32_769)
+    );
+    assert_eq!(
+        second::render(&long[..9], b"", false, 0, 0, 0),
+        refused(2, 0)
+    );
+    assert_eq!(
+        second::render(deep.as_bytes(), b"", false, DEFINITIONS - 1, 0, 0),
         refused(3, 2)
     );
     assert_eq!(
-        second::render(deep.as_bytes(), b"", DEFINITIONS, 0, 0),
+        second::render(deep.as_bytes(), b"", false, DEFINITIONS, 0, 0),
         with_definitions(4, 20 + 1_024)
     );
     let note = NOTE.as_bytes();
     assert_eq!(
-        second::render(note, b"", DEFINITIONS, SPANS - 1, 0),
+        second::render(note, b"", false, DEFINITIONS, SPANS - 1, 0),
         with_definitions(5, 2)
     );
     let short_page = RenderAnswer {
         span_rows: Some(NOTE_SPANS.to_vec()),
         ..with_definitions(6, 41)
     };
-    assert_eq!(second::render(note, b"", DEFINITIONS, SPANS, 0), short_page);
     assert_eq!(
-        second::render(note, b"", DEFINITIONS, SPANS, 40),
+        second::render(note, b"", false, DEFINITIONS, SPANS, 0),
         short_page
     );
-    assert_eq!(second::render(note, b"", DEFINITIONS, SPANS, 41).number, 0);
+    assert_eq!(
+        second::render(note, b"", false, DEFINITIONS, SPANS, 40),
+        short_page
+    );
+    assert_eq!(
+        second::render(note, b"", false, DEFINITIONS, SPANS, 41).number,
+        0
+    );
 }
 
 #[test]
@@ -125,7 +140,7 @@ fn memory_past_the_part_in_use_is_unchanged() {
     let definitions_after = table_with_rows(NOTE_DEFINITIONS.concat(), &[7; 3]);
     let spans_after = table_with_rows(NOTE_SPANS.concat(), &[8; 3]);
 
-    let answer = second::render(note, b"", DEFINITIONS + 3, SPANS + 3, 45);
+    let answer = second::render(note, b"", false, DEFINITIONS + 3, SPANS + 3, 45);
     assert_eq!(
         answer.definition_table(&definitions_before),
         definitions_after
@@ -135,7 +150,7 @@ fn memory_past_the_part_in_use_is_unchanged() {
         answer.page_buffer(&page_before),
         [NOTE_PAGE.as_bytes(), &[9; 4]].concat()
     );
-    let answer = second::render(note, b"", DEFINITIONS + 3, SPANS + 3, 40);
+    let answer = second::render(note, b"", false, DEFINITIONS + 3, SPANS + 3, 40);
     assert_eq!(
         answer.definition_table(&definitions_before),
         definitions_after
@@ -143,14 +158,14 @@ fn memory_past_the_part_in_use_is_unchanged() {
     assert_eq!(answer.span_table(&spans_before), spans_after);
     assert_eq!(answer.page_buffer(&page_before[..40]), [9; 40]);
 
-    let answer = second::read(note, b"", DEFINITIONS + 3, SPANS - 1);
+    let answer = second::read(note, b"", false, DEFINITIONS + 3, SPANS - 1);
     assert_eq!(
         answer.definition_table(&definitions_before),
         definitions_after
     );
     let too_few = &spans_before[..SPANS - 1];
     assert_eq!(answer.span_table(too_few), too_few);
-    let answer = second::read(note, b"", DEFINITIONS - 1, SPANS + 3);
+    let answer = second::read(note, b"", false, DEFINITIONS - 1, SPANS + 3);
     let too_few = &definitions_before[..DEFINITIONS - 1];
     assert_eq!(answer.definition_table(too_few), too_few);
     assert_eq!(answer.span_table(&spans_before), spans_before);

@@ -98,7 +98,8 @@ fn places_lie_in_the_text_that_the_row_names() {
 #[test]
 fn a_sheet_of_hidden_definitions() {
     let note = "[a]: /1\n[b]: /2 't'\n\n[a] [x][B] `c`";
-    let render = |sheet: &str| second::render(note.as_bytes(), sheet.as_bytes(), 100, 100, 200);
+    let render =
+        |sheet: &str| second::render(note.as_bytes(), sheet.as_bytes(), false, 100, 100, 200);
     let [alone, beside] = ["", "[B]: /3\n\n[ a ]: /4 'u'\n[b]: /5"].map(render);
     assert_eq!((alone.definition_count, beside.definition_count), (2, 5));
     assert_eq!(
@@ -109,7 +110,7 @@ fn a_sheet_of_hidden_definitions() {
 
 /// The reader, with nothing lent.
 fn read(note: &[u8], sheet: &[u8]) -> ReadAnswer {
-    second::read(note, sheet, 0, 0)
+    second::read(note, sheet, false, 0, 0)
 }
 
 #[test]
@@ -153,7 +154,7 @@ fn each_text_has_its_own_limit() {
     let sheet = "a".repeat(32_768 - end.len()) + end;
     let note = "a".repeat(32_768 - 4) + " [b]";
     let [note, sheet] = [&note, &sheet].map(|text| text.as_bytes());
-    let answer = second::read(note, sheet, DEFINITION_ROW_WIDTH, SPAN_ROW_WIDTH);
+    let answer = second::read(note, sheet, false, DEFINITION_ROW_WIDTH, SPAN_ROW_WIDTH);
     assert_eq!((answer.number, answer.text), (0, 0));
     let definition = [1, 32_762, 32_763, 32_766, 32_768, 0, 0, 3];
     assert_eq!(answer.definition_rows, Some(vec![definition]));
@@ -169,25 +170,26 @@ fn each_text_has_its_own_limit() {
 fn refusal_3_counts_both_texts() {
     let [note, sheet] = [NOTE, SHEET].map(str::as_bytes);
     for lent in [0, DEFINITION_ROW_WIDTH, 3 * DEFINITION_ROW_WIDTH - 1] {
-        let answer = second::read(note, sheet, lent, 100);
+        let answer = second::read(note, sheet, false, lent, 100);
         assert_eq!(answer, refused(3, 3), "{lent} numbers lent");
     }
-    let answer = second::read(note, sheet, 3 * DEFINITION_ROW_WIDTH, 100);
+    let answer = second::read(note, sheet, false, 3 * DEFINITION_ROW_WIDTH, 100);
     assert_eq!(answer.number, 0);
     // A note without definitions, beside a sheet with one.
-    assert_eq!(second::read(b"", b"[a]: b", 7, 0), refused(3, 1));
+    assert_eq!(second::read(b"", b"[a]: b", false, 7, 0), refused(3, 1));
 }
 
 #[test]
 fn refusals_4_to_6_name_no_text() {
     let open = "[".repeat(1_025);
     let deep = format!("[b] {open}");
-    let read = |note: &str, spans| second::read(note.as_bytes(), SHEET.as_bytes(), 100, spans);
+    let read =
+        |note: &str, spans| second::read(note.as_bytes(), SHEET.as_bytes(), false, 100, spans);
     let [depth, rows] = [read(&deep, 100), read(NOTE, 2 * SPAN_ROW_WIDTH - 1)];
     assert_eq!((depth.number, depth.value, depth.text), (4, 4 + 1_024, 0));
     assert_eq!(depth.definition_rows.map(|rows| rows.len()), Some(2));
     assert_eq!((rows.number, rows.value, rows.text), (5, 2, 0));
     assert_eq!(rows.definition_rows.map(|rows| rows.len()), Some(3));
-    let page = second::render(NOTE.as_bytes(), SHEET.as_bytes(), 100, 100, 54);
+    let page = second::render(NOTE.as_bytes(), SHEET.as_bytes(), false, 100, 100, 54);
     assert_eq!((page.number, page.value, page.text), (6, 55, 0));
 }

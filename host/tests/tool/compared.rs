@@ -6,43 +6,44 @@ use std::path::PathBuf;
 use host::json::{self, Value};
 use host::second::{self, kind, DefinitionRow, SpanRow};
 
-use crate::run::{notice, Folder};
+use crate::run::{notice, Folder, Ran};
 
-/// Compares the tool with the second reader on a note that neither refuses.
-pub fn compare(note: &str) {
-    Texts { note, sheet: None }.compare();
+/// Compares the tool with the second reader on a note that neither refuses, and says whether a release of it
+/// is stopped.
+pub fn compare(note: &str) -> bool {
+    Texts { note, sheet: None }.compare()
 }
 
 /// The same with a sheet beside the note.
-pub fn compare_beside(note: &str, sheet: &str) {
+pub fn compare_beside(note: &str, sheet: &str) -> bool {
     let folder = Folder::new();
     let file = folder.write("sheet.md", sheet.as_bytes());
     let sheet = Sheet { text: sheet, file };
     let sheet = Some(&sheet);
-    Texts { note, sheet }.compare();
+    Texts { note, sheet }.compare()
 }
 
 /// A sheet, and the file where it stands.
 #[derive(Debug)]
-struct Sheet<'t> {
+pub struct Sheet<'t> {
     text: &'t str,
     file: PathBuf,
 }
 
 /// What the tool is given: a note on standard input, and a sheet or none.
 #[derive(Clone, Copy, Debug)]
-struct Texts<'t> {
+pub struct Texts<'t> {
     note: &'t str,
     sheet: Option<&'t Sheet<'t>>,
 }
 
 impl<'t> Texts<'t> {
-    fn compare(self) {
-        let [note, sheet] = [0, 1].map(|text| self.text(text).as_bytes());
-        let wanted = second::render(note, sheet, usize::MAX, usize::MAX, usize::MAX);
+    fn compare(self) -> bool {
+        let [note, sheet] = self.bytes();
+        let wanted = second::render(note, sheet, false, usize::MAX, usize::MAX, usize::MAX);
         assert_eq!(wanted.number, second::number::SUCCESS, "{self:?}");
         let page = self.run(&["page"], &[]);
-        assert_eq!(Some(page.into_bytes()), wanted.page, "{self:?}");
+        assert_eq!(Some(page.as_bytes()), wanted.page.as_deref(), "{self:?}");
         let text = self.run(&["links", "--json"], &[]);
         let listed = json::parse(&text).unwrap_or_else(|error| panic!("{self:?}: {error}\n{text}"));
         let definitions = wanted.definition_rows.expect("rows on success");
@@ -51,20 +52,31 @@ impl<'t> Texts<'t> {
         self.compare_spans(&listed, &spans, &definitions);
         self.compare_table(&definitions, &spans);
         self.compare_enquiry(&definitions);
+        self.compare_release(&page, &definitions)
     }
 
     /// What the tool prints when it is given these words, the sheet, and these names before the note.
     fn run(self, words: &[&str], names: &[&str]) -> String {
+        self.ran(words, names).good()
+    }
+
+    /// The same of a run that may be refused.
+    pub fn ran(self, words: &[&str], names: &[&str]) -> Ran {
         let mut words = words.to_vec();
         if let Some(sheet) = self.sheet {
             words.extend(["--sheet", sheet.file.to_str().expect("a plain name")]);
         }
         let words = [&words[..], &["--"], names, &["-"]].concat();
-        notice(&words, self.note.as_bytes()).good()
+        notice(&words, self.note.as_bytes())
+    }
+
+    /// The bytes of the note and the sheet.
+    pub fn bytes(self) -> [&'t [u8]; 2] {
+        [0, 1].map(|text| self.text(text).as_bytes())
     }
 
     /// The text with this number.
-    fn text(self, text: u32) -> &'t str {
+    pub fn text(self, text: u32) -> &'t str {
         match text {
             0 => self.note,
             _ => self.sheet.map_or("", |sheet| sheet.text),
@@ -72,12 +84,12 @@ impl<'t> Texts<'t> {
     }
 
     /// The part of a text.
-    fn part(self, text: u32, start: u32, end: u32) -> &'t str {
+    pub fn part(self, text: u32, start: u32, end: u32) -> &'t str {
         &self.text(text)[range(start, end)]
     }
 
     /// The name of a text's file, where there are two.
-    fn file(self, text: u32) -> Option<&'t str> {
+    pub fn file(self, text: u32) -> Option<&'t str> {
         self.sheet.map(|sheet| match text {
             0 => "-",
             _ => sheet.file.to_str().expect("a plain name"),
@@ -85,7 +97,7 @@ impl<'t> Texts<'t> {
     }
 
     /// The member names the text's file; where there is one file it is left out.
-    fn assert_file(self, item: &Value, key: &str, text: u32) {
+    pub fn assert_file(self, item: &Value, key: &str, text: u32) {
         let said = item.get(key).map(|name| name.as_str().expect("a name"));
         assert_eq!(said, self.file(text), "{self:?} {key}");
     }
@@ -103,33 +115,6 @@ impl<'t> Texts<'t> {
             assert_eq!(number(item, "number"), index as u32 + 1);
             self.assert_place(item, text, row[1] - 1);
             self.compare_hidden(item, index, rows);
-        }
-    }
-
-    /// The first row with an equal label, by the second reader.
-    fn compare_hidden(self, item: &Value, index: usize, rows: &[DefinitionRow]) {
-        let label = |row: &DefinitionRow| self.part(row[0], row[1], row[2]).as_bytes();
-        let own = &rows[index];
-        let equal = |row: &DefinitionRow| second::same_label(label(row), label(own));
-        let first = rows.iter().position(equal);
-        let first = first.expect("a row has its own label");
-        let hidden = item.get("hidden_by").expect("the key hidden_by");
-        if first == index {
-            assert_eq!(hidden, &Value::Null, "{self:?}");
-            return;
-        }
-        let other = &rows[first];
-        assert_eq!(number(hidden, "number"), first as u32 + 1, "{self:?}");
-        self.assert_file(hidden, "file", other[0]);
-        let (line, _) = place(self.text(other[0]), other[1]);
-        assert_eq!(number(hidden, "line"), line, "{self:?}");
-        let part = |row: &DefinitionRow, at: usize| {
-            (row[at + 1] != 0).then(|| self.part(row[0], row[at], row[at + 1]))
-        };
-        for (key, at) in [("destination_differs", 3), ("title_differs", 5)] {
-            let differs = part(own, at) != part(other, at);
-            let said = hidden.get(key);
-            assert_eq!(said, Some(&Value::Bool(differs)), "{self:?} {key}");
         }
     }
 
@@ -209,7 +194,7 @@ impl<'t> Texts<'t> {
             return;
         };
         let label = self.part(row[0], row[1], row[2]);
-        let [note, sheet] = [0, 1].map(|text| self.text(text).as_bytes());
+        let [note, sheet] = self.bytes();
         let wanted = second::resolve(note, sheet, label.as_bytes());
         let text = wanted.text as u32;
         let (line, column) = place(self.text(text), wanted.destination.start as u32);
@@ -243,7 +228,7 @@ fn items<'v>(listed: &'v Value, key: &str) -> &'v [Value] {
     listed.get(key).and_then(Value::as_array).expect(key)
 }
 
-fn number(item: &Value, key: &str) -> u32 {
+pub fn number(item: &Value, key: &str) -> u32 {
     item.get(key).and_then(Value::as_number).expect(key) as u32
 }
 
@@ -252,7 +237,7 @@ fn range(start: u32, end: u32) -> Range<usize> {
 }
 
 /// Line and column, by counting from the text's start.
-fn place(text: &str, at: u32) -> (u32, u32) {
+pub fn place(text: &str, at: u32) -> (u32, u32) {
     let before = &text[..at as usize];
     let line = 1 + before.matches('\n').count();
     let column = 1 + before.chars().rev().take_while(|c| *c != '\n').count();

@@ -14,6 +14,8 @@ const GOOD: [&str; 7] = [
     "ward-round",
 ];
 const REFUSED: &str = "too-deep";
+/// Those with definitions that conflict, which stops a release.
+const CONFLICTING: [&str; 2] = ["june", "night-shift"];
 /// The sheet, and the notice that cites it.
 const SHEET: &str = "limits.md";
 const BESIDE: &str = "ward-round.md";
@@ -88,6 +90,22 @@ fn checks() {
 }
 
 #[test]
+fn releases() {
+    for name in GOOD {
+        let file = format!("{name}.md");
+        let [check, page] = ["check", "page"].map(|command| run(&[command, "--release", &file]));
+        if CONFLICTING.contains(&name) {
+            let line = stored(&format!("{name}.release.txt"));
+            assert_eq!((check.status, &check.out), (Some(9), &line));
+            assert_eq!(page.bad(9), line);
+        } else {
+            assert_eq!(check.good(), "", "{name}");
+            assert_eq!(page.good(), stored(&format!("{name}.page.html")), "{name}");
+        }
+    }
+}
+
+#[test]
 fn destinations() {
     let answers = [
         (
@@ -140,6 +158,8 @@ fn beside_the_sheet() {
     let json = with_sheet(&["links", "--json"]);
     assert_eq!(json, stored("ward-round.sheet.links.json"));
     assert_eq!(with_sheet(&["check"]), "");
+    let stopped = run(&["page", "--release", "--sheet", SHEET, BESIDE]);
+    assert_eq!(stopped.bad(9), stored("ward-round.sheet.release.txt"));
     let answers = [
         (
             "Placebin Limit",

@@ -1,5 +1,5 @@
 //! The command-line tool: its commands on the examples and on hard notes, refusals, files, sheets,
-//! usage.
+//! releases, usage.
 
 mod compared;
 mod examples;
@@ -7,6 +7,8 @@ mod files;
 mod notes;
 mod output;
 mod refusals;
+mod releases;
+mod repeats;
 mod run;
 mod sheets;
 mod usage;

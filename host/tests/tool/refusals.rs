@@ -3,7 +3,7 @@
 use std::ffi::OsStr;
 use std::os::unix::ffi::OsStrExt;
 
-use crate::run::{self, notice};
+use crate::run::{self, notice, notice_in, Folder};
 
 /// The line of a refusal of the note.
 fn refused(note: &[u8], status: i32) -> String {
@@ -142,4 +142,41 @@ fn destinations_that_are_empty_or_odd() {
         let answer = notice(&["where", label, "-"], note.as_bytes()).good();
         assert_eq!(answer, wanted, "{label:?}");
     }
+}
+
+/// Refusals 1 and 2 of either text come before 9, and 9 before 4.
+#[test]
+fn a_release_among_other_refusals() {
+    let run = |note: &[u8], sheet: &[u8], words: &[&str]| {
+        let folder = Folder::new();
+        folder.write("n", note);
+        folder.write("s", sheet);
+        let ran = notice_in(folder.path(), &[words, &["--sheet", "s", "n"]].concat());
+        (ran.status, ran.out)
+    };
+    let conflict = b"[a]: x\n[a]: y\n\n";
+    let long = [&conflict[..], &vec![b'a'; 32_768]].concat();
+    let bad = [&conflict[..], b"\xff"].concat();
+    let deep = [&conflict[..], &vec![b'['; 1_025]].concat();
+    for (note, sheet, status, start) in [
+        (&long[..], &conflict[..], 1, "n:1:1: refusal 1: "),
+        (&bad, conflict, 2, "n:4:1: refusal 2: "),
+        (conflict, &long, 1, "s:1:1: refusal 1: "),
+        (conflict, &bad, 2, "s:4:1: refusal 2: "),
+        (&deep, &bad, 2, "s:4:1: refusal 2: "),
+    ] {
+        let released = run(note, sheet, &["check", "--release"]);
+        assert_eq!(released, run(note, sheet, &["check"]));
+        assert_eq!(released.0, Some(status));
+        assert!(released.1.starts_with(start), "{}", released.1);
+    }
+    let (status, line) = run(&deep, b"", &["check"]);
+    assert_eq!(status, Some(4));
+    assert!(line.starts_with("n:4:1025: refusal 4: "), "{line}");
+    let (status, line) = run(&deep, b"", &["check", "--release"]);
+    assert_eq!(status, Some(9));
+    assert!(line.starts_with("n:2:1: refusal 9: "), "{line}");
+    let alone = [&b"[a]: x\n\n"[..], &vec![b'['; 1_025]].concat();
+    let (status, _) = run(&alone, b"[a]: x", &["check", "--release"]);
+    assert_eq!(status, Some(4), "no conflict");
 }

@@ -58,19 +58,30 @@ pub fn notice_in(folder: &Path, words: &[impl AsRef<OsStr>]) -> Ran {
 /// The line of a refusal, after every command that reads whole notes said it alike. `run` is given a
 /// command's words without its files.
 pub fn refused(run: impl Fn(&[&str]) -> Ran, status: i32) -> String {
-    let Ran {
-        status: ended,
-        out,
-        err,
-    } = run(&["check"]);
-    assert_eq!((ended, err.as_str()), (Some(status), ""), "{out}");
-    assert!(out.ends_with('\n') && out.lines().count() == 1, "{out:?}");
-    for words in [
+    let others = [
         &["page"][..],
         &["page", "--standalone"],
         &["links"],
         &["links", "--json"],
-    ] {
+    ];
+    said_alike(run, &["check"], &others, status)
+}
+
+/// The line that a check prints, after the other commands said it on standard error and printed nothing.
+pub fn said_alike(
+    run: impl Fn(&[&str]) -> Ran,
+    check: &[&str],
+    others: &[&[&str]],
+    status: i32,
+) -> String {
+    let Ran {
+        status: ended,
+        out,
+        err,
+    } = run(check);
+    assert_eq!((ended, err.as_str()), (Some(status), ""), "{out}");
+    assert!(out.ends_with('\n') && out.lines().count() == 1, "{out:?}");
+    for words in others {
         assert_eq!(run(words).bad(status), out, "{words:?}");
     }
     out

@@ -38,11 +38,14 @@ fn help_names_every_command_option_and_status() {
         "--standalone",
         "--json",
         "--sheet FILE",
+        "--release",
         "--",
     ] {
         assert!(help.contains(word), "{word}");
     }
-    for status in ["0", "1", "2", "4", "7", "8", "64", "69", "70", "71", "74"] {
+    for status in [
+        "0", "1", "2", "4", "7", "8", "9", "64", "69", "70", "71", "74",
+    ] {
         assert!(help.contains(&format!("\n{status:>4}  ")), "{status}");
     }
 }
@@ -84,12 +87,32 @@ fn wrong_usage() {
 }
 
 #[test]
+fn a_release_of_commands_that_have_none() {
+    let unknown = "unknown option '--release'";
+    let lines: [(&[&str], &str); 6] = [
+        (&["links", "--release", "-"], unknown),
+        (&["links", "--json", "-", "--release"], unknown),
+        (&["where", "--release", "max", "-"], unknown),
+        (&["--release"], unknown),
+        (
+            &["check", "--release=yes", "-"],
+            "unknown option '--release=yes'",
+        ),
+        (&["page", "--release"], "exactly one FILE is needed"),
+    ];
+    for (words, wanted) in lines {
+        assert_wrong(words, wanted);
+    }
+}
+
+#[test]
 fn wrong_sheets() {
     let no_file = "--sheet needs a FILE after it";
     let one = "only one --sheet may be given";
     let both = "standard input (-) can't be both the notice and the sheet";
-    let lines: [(&[&str], &str); 9] = [
+    let lines: [(&[&str], &str); 10] = [
         (&["--sheet"], no_file),
+        (&["check", "--sheet", "--release", "-"], no_file),
         (&["page", "-", "--sheet"], no_file),
         (&["links", "--sheet", "--json", "-"], no_file),
         (&["check", "--sheet", "--", "-"], no_file),
@@ -129,5 +152,12 @@ fn options_before_and_after_names() {
         &["links", "--json", "--json", "--", "-"],
     ] {
         assert_eq!(notice(words, NOTE).good(), wanted, "{words:?}");
+    }
+    for words in [
+        &["page", "--release", "-"][..],
+        &["--release", "page", "-"],
+        &["page", "-", "--release", "--release"],
+    ] {
+        assert_eq!(notice(words, NOTE).good(), PAGE, "{words:?}");
     }
 }

@@ -1,4 +1,4 @@
--- Six numbers make a header.
+-- Six numbers and a setting make a header.
 use borrow.Author.Needs.{needs}
 use Rattle.container.proofs.HeaderLine.{cased, no-page, no-note, no-sheet, no-label}
 use Rattle.container.proofs.header_with.Statement.{statement}

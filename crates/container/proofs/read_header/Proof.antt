@@ -1,4 +1,4 @@
--- A ruled line has 42 bytes, so that each number lies within it.
+-- A ruled line has 44 bytes, so that each number lies within it.
 use borrow.Author.Needs.{needs}
 use native.Mathlib.Omega.{arith}
 use denote.Ref.{now}
@@ -81,6 +81,9 @@ part-read-number-end-6 c = omega (arith, ruled-length (now (c .before .before .b
 read-number-requires-6 : tie.Need-read-number-requires-6
 read-number-requires-6 c κs = search needs
 
+peek-requires : tie.Need-peek-requires
+peek-requires c κs = search needs
+
 header-with-requires : tie.Need-header-with-requires
 header-with-requires c κs = search needs
 
@@ -119,6 +122,7 @@ read-header-spec =
     part-read-number-start-6
     part-read-number-end-6
     read-number-requires-6
+    peek-requires
     header-with-requires
     returns
     returns-2)

@@ -43,8 +43,8 @@ same-length c = search needs
 returns-3 : tie.Need-returns-3
 returns-3 c = search returning
 
-read-spans-requires : tie.Need-read-spans-requires
-read-spans-requires c κs =
+read-joined-requires : tie.Need-read-joined-requires
+read-joined-requires c κs =
     let compared = c .before .before .before in
     let counted = compared .before .before .before .before .before in
     let checked = counted .before .before .before .before in
@@ -68,13 +68,13 @@ returns-4 c =
     let start = checked .before .before .before .before .before in
     none-read (texts (start .args .note .now) (start .args .sheet .now)) (start .args .definitions .now) (start .args .spans .now) (checked .check .ensures .answer) (counted .before .before .enum-told .given .1)
     (counted .fill-joined .ensures .1) (counted .fill-joined .ensures .0) (compared .before .whole-rows .ensures) (compared .if1 .left)
-    (read .before .before .before .if2 .taken) (read .read-spans .ensures)
+    (read .before .before .before .if2 .taken) (read .read-joined .ensures)
 
 fill-joined-requires-2 : tie.Need-fill-joined-requires-2
 fill-joined-requires-2 c κs = let e = c .before .before .before .before .before .before .before .before .before .before .before .check .ensures .answer in let g = c .before .before .before .before .before .before .before .before .before .enum-told .given .1 in (short-note (texts (c .before .before .before .before .before .before .before .before .before .before .before .before .before .before .before .before .args .note .now) (c .before .before .before .before .before .before .before .before .before .before .before .before .before .before .before .before .args .sheet .now)) e g, short-sheet (texts (c .before .before .before .before .before .before .before .before .before .before .before .before .before .before .before .before .args .note .now) (c .before .before .before .before .before .before .before .before .before .before .before .before .before .before .before .before .args .sheet .now)) e g)
 
-read-spans-requires-2 : tie.Need-read-spans-requires-2
-read-spans-requires-2 c κs =
+read-joined-requires-2 : tie.Need-read-joined-requires-2
+read-joined-requires-2 c κs =
     let stored = c .before .before .before .before in
     let compared = stored .before .before .before in
     let counted = compared .before .before .before .before .before in
@@ -109,12 +109,12 @@ read-spec =
     whole-rows-requires
     same-length
     returns-3
-    read-spans-requires
+    read-joined-requires
     same-length-2
     same-length-3
     returns-4
     fill-joined-requires-2
-    read-spans-requires-2
+    read-joined-requires-2
     same-length-4
     same-length-5
     returns-5)

@@ -1,10 +1,10 @@
 -- Each return keeps the promise, by what the reader answered and what was measured and written before it.
 use borrow.Author.Needs.{needs}
-use Rattle.rendering.proofs.Returns.{too-long, not-good, too-few-definitions, too-deep, too-few-spans, spanned, listing, short-page, page-written}
+use Rattle.rendering.proofs.Returns.{too-long, not-good, too-few-definitions, conflict-found, too-deep, too-few-spans, spanned, listing, short-page, page-written}
 use Rattle.rendering.proofs.render.Statement.{statement}
 use Rattle.rendering.proofs.render.Tie as tie
 
-ruleset returning = (too-long, not-good, too-few-definitions, too-deep, too-few-spans, short-page, page-written, needs)
+ruleset returning = (too-long, not-good, too-few-definitions, conflict-found, too-deep, too-few-spans, short-page, page-written, needs)
 
 read-requires : tie.Need-read-requires
 read-requires c κs = search needs
@@ -18,11 +18,14 @@ enum-known-x-2 c = search needs
 enum-known-n : tie.Need-enum-known-n
 enum-known-n c = search needs
 
+enum-known-n-2 : tie.Need-enum-known-n-2
+enum-known-n-2 c = search needs
+
 enum-known-k : tie.Need-enum-known-k
 enum-known-k c = search needs
 
-enum-known-n-2 : tie.Need-enum-known-n-2
-enum-known-n-2 c = search needs
+enum-known-n-3 : tie.Need-enum-known-n-3
+enum-known-n-3 c = search needs
 
 enum-known-d : tie.Need-enum-known-d
 enum-known-d c = search needs
@@ -102,11 +105,20 @@ same-length-14 c = search needs
 same-length-15 : tie.Need-same-length-15
 same-length-15 c = search needs
 
+returns-7 : tie.Need-returns-7
+returns-7 c = search returning
+
 same-length-16 : tie.Need-same-length-16
 same-length-16 c = search needs
 
-returns-7 : tie.Need-returns-7
-returns-7 c = search returning
+same-length-17 : tie.Need-same-length-17
+same-length-17 c = search needs
+
+same-length-18 : tie.Need-same-length-18
+same-length-18 c = search needs
+
+returns-8 : tie.Need-returns-8
+returns-8 c = search returning
 
 pub render-spec : {M : Type 1} → statement M
 render-spec =
@@ -116,8 +128,9 @@ render-spec =
     enum-known-x
     enum-known-x-2
     enum-known-n
-    enum-known-k
     enum-known-n-2
+    enum-known-k
+    enum-known-n-3
     enum-known-d
     slice-relend-prefix-write-page
     slice-aggregate-write-page
@@ -144,5 +157,8 @@ render-spec =
     returns-6
     same-length-14
     same-length-15
+    returns-7
     same-length-16
-    returns-7)
+    same-length-17
+    same-length-18
+    returns-8)

@@ -12,11 +12,27 @@ use crate::visible::visible;
 pub enum Command {
     Help,
     Version,
-    Page { standalone: bool, files: Files },
-    Links { json: bool, files: Files },
-    Where { label: OsString, files: Files },
-    Check { files: Files },
+    Page {
+        standalone: bool,
+        release: bool,
+        files: Files,
+    },
+    Links {
+        json: bool,
+        files: Files,
+    },
+    Where {
+        label: OsString,
+        files: Files,
+    },
+    Check {
+        release: bool,
+        files: Files,
+    },
 }
+
+/// Asks that conflicting definitions be refused.
+const RELEASE: &str = "--release";
 
 /// The words of a command line, sorted.
 enum Words {
@@ -92,44 +108,56 @@ fn command(
 ) -> Result<Command, Fault> {
     let mut names = names.into_iter();
     let Some(name) = names.next() else {
-        return match options.first() {
-            Some(option) => usage(format!("unknown option {}", quoted(option))),
-            None => usage("no command given".to_string()),
-        };
+        return no_command(options);
     };
     let names: Vec<OsString> = names.collect();
     match name.to_str() {
-        Some("page") => Ok(Command::Page {
-            standalone: flag(options, Some("--standalone"))?,
-            files: one_file(names, sheet)?,
-        }),
-        Some("links") => Ok(Command::Links {
-            json: flag(options, Some("--json"))?,
-            files: one_file(names, sheet)?,
-        }),
+        Some("page") => {
+            let [standalone, release] = flags(options, ["--standalone", RELEASE])?;
+            Ok(Command::Page {
+                standalone,
+                release,
+                files: one_file(names, sheet)?,
+            })
+        }
+        Some("links") => {
+            let [json] = flags(options, ["--json"])?;
+            let files = one_file(names, sheet)?;
+            Ok(Command::Links { json, files })
+        }
         Some("where") => {
-            flag(options, None)?;
+            let [] = flags(options, [])?;
             let [label, file] = exactly(names, "where needs a LABEL and one FILE")?;
             let files = both(file, sheet)?;
             Ok(Command::Where { label, files })
         }
         Some("check") => {
-            flag(options, None)?;
+            let [release] = flags(options, [RELEASE])?;
             let files = one_file(names, sheet)?;
-            Ok(Command::Check { files })
+            Ok(Command::Check { release, files })
         }
         _ => usage(format!("unknown command {}", quoted(&name))),
     }
 }
 
-/// Whether the one option that a command knows is given; no other may be.
-fn flag(options: &[OsString], known: Option<&str>) -> Result<bool, Fault> {
+fn no_command<T>(options: &[OsString]) -> Result<T, Fault> {
+    match options.first() {
+        Some(option) => usage(format!("unknown option {}", quoted(option))),
+        None => usage("no command given".to_string()),
+    }
+}
+
+/// Which of the options that a command knows are given; no other may be.
+fn flags<const COUNT: usize>(
+    options: &[OsString],
+    known: [&str; COUNT],
+) -> Result<[bool; COUNT], Fault> {
     let unknown = options
         .iter()
-        .find(|option| known.is_none_or(|known| option.as_os_str() != known));
+        .find(|option| known.iter().all(|known| option.as_os_str() != *known));
     match unknown {
         Some(option) => usage(format!("unknown option {}", quoted(option))),
-        None => Ok(!options.is_empty()),
+        None => Ok(known.map(|known| options.iter().any(|option| option.as_os_str() == known))),
     }
 }
 
@@ -164,100 +192,4 @@ fn quoted(word: &OsStr) -> String {
 }
 
 #[cfg(test)]
-mod tests {
-    use super::{parse, Command};
-    use crate::fault::Fault;
-    use crate::texts::Files;
-    use std::ffi::OsString;
-
-    fn parsed(line: &str) -> Result<Command, Fault> {
-        parse(line.split_whitespace().map(OsString::from))
-    }
-
-    fn files(note: &str, sheet: Option<&str>) -> Files {
-        Files {
-            note: note.into(),
-            sheet: sheet.map(OsString::from),
-        }
-    }
-
-    #[test]
-    fn options_stand_anywhere_before_the_dashes() {
-        let page = |standalone| Command::Page {
-            standalone,
-            files: files("a", None),
-        };
-        assert_eq!(parsed("page a").unwrap(), page(false));
-        assert_eq!(parsed("page a --standalone").unwrap(), page(true));
-        assert_eq!(parsed("--standalone page a").unwrap(), page(true));
-        let named = Command::Check {
-            files: files("--help", None),
-        };
-        assert_eq!(parsed("check -- --help").unwrap(), named);
-        assert_eq!(parsed("check a --help").unwrap(), Command::Help);
-    }
-
-    #[test]
-    fn a_sheet_stands_before_or_after_the_note() {
-        let check = || Command::Check {
-            files: files("a", Some("b")),
-        };
-        assert_eq!(parsed("check a --sheet b").unwrap(), check());
-        assert_eq!(parsed("check --sheet b a").unwrap(), check());
-        assert_eq!(parsed("--sheet b check -- a").unwrap(), check());
-        let enquiry = Command::Where {
-            label: "--sheet".into(),
-            files: files("a", Some("-")),
-        };
-        assert_eq!(
-            parsed("where --sheet - -- --sheet a").unwrap(),
-            enquiry,
-            "after the dashes it is a name"
-        );
-        assert_eq!(parsed("check --sheet --help").unwrap(), Command::Help);
-        assert_eq!(
-            parsed("check --sheet a --sheet b --help").unwrap(),
-            Command::Help
-        );
-    }
-
-    #[test]
-    fn a_lone_dash_is_a_name() {
-        let enquiry = || Command::Where {
-            label: "-".into(),
-            files: files("-", None),
-        };
-        assert_eq!(parsed("where - -").unwrap(), enquiry());
-        assert_eq!(parsed("-- where - -").unwrap(), enquiry());
-    }
-
-    #[test]
-    fn wrong_usage() {
-        let lines = [
-            "",
-            "--",
-            "-",
-            "pages a",
-            "page",
-            "page a b",
-            "page --json a",
-            "links --standalone a",
-            "check --json a",
-            "where a",
-            "where a b c",
-            "where -x a",
-            "check -v a",
-            "--json",
-            "check a --sheet",
-            "check --sheet -- a",
-            "links a --sheet --json",
-            "check --sheet a",
-            "check a --sheet b --sheet b",
-            "check --sheet - -",
-            "where a - --sheet -",
-        ];
-        for line in lines {
-            assert!(matches!(parsed(line), Err(Fault::Usage(_))), "{line:?}");
-        }
-    }
-}
+mod tests;

@@ -28,7 +28,11 @@ pub struct Refusal {
 /// Why there is no answer.
 #[derive(Debug)]
 pub enum Failure {
-    Refused(Refusal),
+    Refused {
+        refusal: Refusal,
+        /// The definition table as the call left it: after refusal 9 it holds its rows.
+        definitions: Vec<u32>,
+    },
     Fault(Fault),
 }
 
@@ -45,17 +49,21 @@ impl Tables {
         match refusal.number {
             FEW_DEFINITION_ROWS => grow(&mut self.definitions, refusal.value, DEFINITION_WIDTH),
             FEW_SPAN_ROWS => grow(&mut self.spans, refusal.value, SPAN_WIDTH),
-            _ => Err(Failure::Refused(refusal)),
+            _ => Err(Failure::Refused {
+                refusal,
+                definitions: std::mem::take(&mut self.definitions),
+            }),
         }
     }
 }
 
-/// The definition rows of both texts and the note's span rows.
-pub fn read(texts: &Texts) -> Result<Tables, Failure> {
+/// The definition rows of both texts and the note's span rows; for a release only where no definitions
+/// conflict.
+pub fn read(texts: &Texts, release: bool) -> Result<Tables, Failure> {
     let mut tables = Tables::default();
     loop {
         let Tables { definitions, spans } = &mut tables;
-        let answer = entries::read(&texts.note, &texts.sheet, definitions, spans);
+        let answer = entries::read(&texts.note, &texts.sheet, release, definitions, spans);
         if answer.number == SUCCESS {
             return Ok(tables);
         }
@@ -67,13 +75,14 @@ pub fn read(texts: &Texts) -> Result<Tables, Failure> {
     }
 }
 
-/// The note's page.
-pub fn page(texts: &Texts) -> Result<Vec<u8>, Failure> {
+/// The note's page; for a release only where no definitions conflict.
+pub fn page(texts: &Texts, release: bool) -> Result<Vec<u8>, Failure> {
     let mut tables = Tables::default();
     let mut page = Vec::new();
     loop {
+        let (note, sheet) = (&texts.note, &texts.sheet);
         let Tables { definitions, spans } = &mut tables;
-        let answer = entries::render(&texts.note, &texts.sheet, definitions, spans, &mut page);
+        let answer = entries::render(note, sheet, release, definitions, spans, &mut page);
         match answer.number {
             SUCCESS => return Ok(page),
             PAGE_TOO_SHORT => grow(&mut page, answer.value, 1)?,
@@ -90,11 +99,14 @@ pub fn page(texts: &Texts) -> Result<Vec<u8>, Failure> {
 pub fn resolve(texts: &Texts, label: &[u8]) -> Result<(Which, Range<usize>), Failure> {
     let answer = entries::resolve(&texts.note, &texts.sheet, label);
     if answer.number != SUCCESS {
-        return Err(Failure::Refused(Refusal {
-            number: answer.number,
-            value: answer.value,
-            text: answer.text,
-        }));
+        return Err(Failure::Refused {
+            refusal: Refusal {
+                number: answer.number,
+                value: answer.value,
+                text: answer.text,
+            },
+            definitions: Vec::new(),
+        });
     }
     let which = Which::of(answer.text).ok_or_else(|| fault("a destination in no text"))?;
     let length = texts.bytes(which).len();
@@ -137,7 +149,7 @@ pub fn fault(words: &'static str) -> Failure {
 
 #[cfg(test)]
 mod tests {
-    use super::{grow, page, read, resolve, same_label, Failure};
+    use super::{grow, page, read, resolve, same_label, Failure, Refusal};
     use crate::fault::Fault;
     use crate::rows::{DEFINITION_WIDTH, SPAN_WIDTH};
     use crate::texts::{Texts, Which};
@@ -148,21 +160,22 @@ mod tests {
     #[test]
     fn buffers_are_exactly_as_long_as_needed() {
         let alone = Texts::of(NOTE, None);
-        let tables = read(&alone).expect("a good note");
+        let tables = read(&alone, false).expect("a good note");
         assert_eq!(tables.definitions, [0, 1, 4, 7, 14, 16, 20, 1]);
         assert_eq!(tables.spans, [5, 27, 32, 28, 31, 1, 7, 14, 16, 20, 3]);
-        let html = page(&alone).expect("a good note");
+        let html = page(&alone, false).expect("a good note");
         assert_eq!(
             String::from_utf8_lossy(&html),
             "<p>Use <a href=\"/q2/max\" title=\"June\">max</a>.</p>\n"
         );
-        let tables = read(&Texts::of("", None)).expect("an empty note");
+        let tables = read(&Texts::of("", None), false).expect("an empty note");
         assert!(tables.definitions.is_empty() && tables.spans.is_empty());
     }
 
     #[test]
     fn rows_of_both_texts_are_asked_for() {
-        let tables = read(&Texts::of(NOTE, Some(SHEET))).expect("a good note and sheet");
+        let both = Texts::of(NOTE, Some(SHEET));
+        let tables = read(&both, false).expect("a good note and sheet");
         let rows = [
             [0, 1, 4, 7, 14, 16, 20, 1],
             [1, 1, 4, 7, 13, 0, 0, 1],
@@ -173,6 +186,33 @@ mod tests {
     }
 
     #[test]
+    fn a_conflict_stops_a_release_with_its_rows() {
+        let both = Texts::of(NOTE, Some(SHEET));
+        let rows = read(&both, false)
+            .expect("definitions that differ")
+            .definitions;
+        let failures = [read(&both, true).err(), page(&both, true).err()];
+        for failure in failures {
+            let Some(Failure::Refused {
+                refusal,
+                definitions,
+            }) = failure
+            else {
+                panic!("no refusal: {failure:?}");
+            };
+            let conflict = Refusal {
+                number: 9,
+                value: 2,
+                text: 0,
+            };
+            assert_eq!((refusal, definitions), (conflict, rows.clone()));
+        }
+        let alone = Texts::of(NOTE, None);
+        let [released, plain] = [true, false].map(|release| page(&alone, release));
+        assert_eq!(released.expect("no conflict"), plain.expect("a good note"));
+    }
+
+    #[test]
     fn the_enquiry_hands_back_a_part_of_one_text() {
         let both = Texts::of(NOTE, Some(SHEET));
         let found = |label| resolve(&both, label).ok();
@@ -180,7 +220,7 @@ mod tests {
         assert_eq!(found(b"Min"), Some((Which::Sheet, 21..27)));
         assert!(matches!(
             resolve(&both, b"mean"),
-            Err(Failure::Refused(refusal)) if refusal.number == 7
+            Err(Failure::Refused { refusal, .. }) if refusal.number == 7
         ));
     }
 

@@ -3,9 +3,10 @@
 use std::borrow::Cow;
 use std::ops::Range;
 
+use crate::definitions::{Definitions, Difference};
 use crate::library::{self, Failure};
 use crate::places::Place;
-use crate::rows::{self, DefinitionRow, Kind, SpanRow};
+use crate::rows::{self, Kind, SpanRow};
 use crate::texts::{Texts, Which};
 
 /// A part of the note or the sheet, and its text.
@@ -72,12 +73,11 @@ pub struct Listing<'n> {
 
 /// Lists a note and the sheet beside it.
 pub fn of(texts: &Texts) -> Result<Listing<'_>, Failure> {
-    let tables = library::read(texts)?;
+    let tables = library::read(texts, false)?;
     let spans =
         rows::spans(&tables.spans).ok_or_else(|| library::fault("a span row of no kind"))?;
-    let rows = rows::definitions(&tables.definitions)
-        .ok_or_else(|| library::fault("a definition row of no text"))?;
-    let lister = Lister { texts, rows };
+    let definitions = Definitions::of(texts, &tables.definitions)?;
+    let lister = Lister { texts, definitions };
     let (codes, links): (Vec<SpanRow>, Vec<SpanRow>) =
         spans.into_iter().partition(|row| row.kind == Kind::Code);
     Ok(Listing {
@@ -92,7 +92,7 @@ pub fn of(texts: &Texts) -> Result<Listing<'_>, Failure> {
 
 struct Lister<'n> {
     texts: &'n Texts,
-    rows: Vec<DefinitionRow>,
+    definitions: Definitions<'n>,
 }
 
 impl<'n> Lister<'n> {
@@ -109,60 +109,45 @@ impl<'n> Lister<'n> {
     }
 
     fn definitions(&self) -> Result<Vec<Definition<'n>>, Failure> {
-        let rows = self.rows.iter().enumerate();
-        rows.map(|(index, row)| Ok(self.definition(row, self.hidden_by(index)?)))
-            .collect()
+        let indices = 0..self.definitions.rows.len();
+        indices.map(|index| self.definition(index)).collect()
     }
 
-    /// The first definition whose label equals that of a later one.
-    fn hidden_by(&self, later: usize) -> Result<Option<usize>, Failure> {
-        let label = |row: &DefinitionRow| &self.texts.bytes(row.which)[row.label.clone()];
-        for first in 0..later {
-            if library::same_label(label(&self.rows[first]), label(&self.rows[later]))? {
-                return Ok(Some(first));
-            }
-        }
-        Ok(None)
-    }
-
-    fn definition(&self, row: &DefinitionRow, hidden_by: Option<usize>) -> Definition<'n> {
+    fn definition(&self, index: usize) -> Result<Definition<'n>, Failure> {
+        let row = &self.definitions.rows[index];
         let which = row.which;
-        Definition {
+        let hidden_by = self.definitions.first_equal(index, |_| true)?;
+        Ok(Definition {
             which,
-            place: Place::on_line(row.line, self.texts.bytes(which), row.label.start - 1),
+            place: self.definitions.place(index),
             label: self.part(which, row.label.clone()),
             destination: self.part(which, row.destination.clone()),
             title: self.optional(which, row.title.clone()),
-            hidden: hidden_by.map(|first| self.hidden(row, first)),
-        }
+            hidden: hidden_by.map(|first| self.hidden(index, first)),
+        })
     }
 
-    fn hidden(&self, row: &DefinitionRow, first: usize) -> Hidden {
-        let other = &self.rows[first];
-        let bytes =
-            |row: &DefinitionRow, range: &Range<usize>| &self.texts.bytes(row.which)[range.clone()];
-        let destination = |row: &DefinitionRow| bytes(row, &row.destination);
-        let title = |row: &DefinitionRow| row.title.as_ref().map(|range| bytes(row, range));
+    fn hidden(&self, index: usize, first: usize) -> Hidden {
+        let Difference { destination, title } = self.definitions.difference(index, first);
         Hidden {
             by: self.named(first),
-            destination_differs: destination(row) != destination(other),
-            title_differs: title(row) != title(other),
+            destination_differs: destination,
+            title_differs: title,
         }
     }
 
     fn named(&self, index: usize) -> Named {
+        let row = &self.definitions.rows[index];
         Named {
             number: index + 1,
-            which: self.rows[index].which,
-            line: self.rows[index].line,
+            which: row.which,
+            line: row.line,
         }
     }
 
     fn link(&self, row: SpanRow) -> Result<Link<'n>, Failure> {
-        if row
-            .definition
-            .is_some_and(|number| number > self.rows.len())
-        {
+        let definitions = self.definitions.rows.len();
+        if row.definition.is_some_and(|number| number > definitions) {
             return Err(library::fault("a reference to no definition"));
         }
         let definition = row.definition.map(|number| self.named(number - 1));

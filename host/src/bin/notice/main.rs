@@ -6,6 +6,8 @@
 #![forbid(unsafe_code)]
 
 mod arguments;
+mod conflict;
+mod definitions;
 mod fault;
 mod files;
 mod json;
@@ -46,17 +48,21 @@ fn run(command: Command) -> Result<u8, Fault> {
     match command {
         Command::Help => files::write(&[HELP.as_bytes()])?,
         Command::Version => files::write(&[VERSION.as_bytes()])?,
-        Command::Page { standalone, files } => page(standalone, files)?,
+        Command::Page {
+            standalone,
+            release,
+            files,
+        } => page(standalone, release, files)?,
         Command::Links { json, files } => links(json, files)?,
         Command::Where { label, files } => destination(&label, files)?,
-        Command::Check { files } => return check(files),
+        Command::Check { release, files } => return check(release, files),
     }
     Ok(0)
 }
 
-fn page(standalone: bool, files: Files) -> Result<(), Fault> {
+fn page(standalone: bool, release: bool, files: Files) -> Result<(), Fault> {
     let texts = Texts::read(files)?;
-    let page = library::page(&texts).map_err(|failure| refusal::fault(failure, &texts))?;
+    let page = library::page(&texts, release).map_err(|failure| refusal::fault(failure, &texts))?;
     if standalone {
         let head = standalone::head(&texts.files.note);
         files::write(&[head.as_bytes(), &page, standalone::FOOT.as_bytes()])
@@ -91,9 +97,9 @@ fn destination(label: &OsStr, files: Files) -> Result<(), Fault> {
 }
 
 /// A refusal is what was asked for here, so it stands on standard output.
-fn check(files: Files) -> Result<u8, Fault> {
+fn check(release: bool, files: Files) -> Result<u8, Fault> {
     let texts = Texts::read(files)?;
-    let Err(failure) = library::read(&texts) else {
+    let Err(failure) = library::read(&texts, release) else {
         return Ok(0);
     };
     match refusal::fault(failure, &texts) {

@@ -1,5 +1,6 @@
 //! Refusals in words: where, what was met, and what to do.
 
+use crate::conflict;
 use crate::fault::Fault;
 use crate::files;
 use crate::library::{Failure, Refusal};
@@ -17,37 +18,43 @@ const NO_PLACE: Place = Place { line: 1, column: 1 };
 pub fn fault(failure: Failure, texts: &Texts) -> Fault {
     match failure {
         Failure::Fault(fault) => fault,
-        Failure::Refused(refusal) => {
-            said(refusal, texts).unwrap_or(Fault::Library("a refusal that it doesn't have"))
-        }
+        Failure::Refused {
+            refusal,
+            definitions,
+        } => said(refusal, &definitions, texts)
+            .unwrap_or(Fault::Library("a refusal that it doesn't have")),
     }
 }
 
 /// The line that names the file, place and number of a refusal, if there is one like it.
-fn said(refusal: Refusal, texts: &Texts) -> Option<Fault> {
-    let which = Which::of(refusal.text)?;
+fn said(refusal: Refusal, definitions: &[u32], texts: &Texts) -> Option<Fault> {
+    let number = u8::try_from(refusal.number).ok()?;
+    let (which, Place { line, column }, words) = words(refusal, definitions, texts)?;
     let name = files::shown_name(texts.files.name(which)?);
-    let (number, Place { line, column }, words) = words(refusal, which, texts)?;
     Some(Fault::Refused {
         number,
         line: format!("{name}:{line}:{column}: refusal {number}: {words}"),
     })
 }
 
-/// The number, place and words of a refusal. Only 1 and 2 are ever about the sheet.
-fn words(refusal: Refusal, which: Which, texts: &Texts) -> Option<(u8, Place, String)> {
+/// The text and the place where a refusal stands, and its words. Only 1 and 2 are ever about the
+/// sheet; 9 stands where the definition does.
+fn words(refusal: Refusal, definitions: &[u32], texts: &Texts) -> Option<(Which, Place, String)> {
+    let value = refusal.value;
+    let which = Which::of(refusal.text)?;
     match (refusal.number, which) {
-        (1, _) => Some((1, NO_PLACE, too_long(refusal.value, which))),
+        (1, _) => Some((which, NO_PLACE, too_long(value, which))),
         (2, _) => {
-            let (byte, place) = met(refusal.value, texts.bytes(which))?;
-            Some((2, place, no_good_character(byte)))
+            let (byte, place) = met(value, texts.bytes(which))?;
+            Some((which, place, no_good_character(byte)))
         }
         (4, Which::Note) => {
-            let (_, place) = met(refusal.value, &texts.note)?;
-            Some((4, place, too_deep()))
+            let (_, place) = met(value, &texts.note)?;
+            Some((which, place, too_deep()))
         }
-        (7, Which::Note) => Some((7, NO_PLACE, no_definition(texts))),
-        (8, Which::Note) => Some((8, NO_PLACE, NO_LABEL.to_string())),
+        (7, Which::Note) => Some((which, NO_PLACE, no_definition(texts))),
+        (8, Which::Note) => Some((which, NO_PLACE, NO_LABEL.to_string())),
+        (9, Which::Note) => conflict::words(value, definitions, texts),
         _ => None,
     }
 }
@@ -113,7 +120,26 @@ mod tests {
             value,
             text,
         };
-        fault(Failure::Refused(refusal), &Texts::of("a\nb\0", sheet))
+        let definitions = Vec::new();
+        let failure = Failure::Refused {
+            refusal,
+            definitions,
+        };
+        fault(failure, &Texts::of("a\nb\0", sheet))
+    }
+
+    /// The definition whose number refusal 9 returns is the sheet's; the refusal names this text.
+    fn conflict(text: u64) -> Fault {
+        let refusal = Refusal {
+            number: 9,
+            value: 2,
+            text,
+        };
+        let failure = Failure::Refused {
+            refusal,
+            definitions: [[0, 1, 2, 5, 6, 0, 0, 1], [1, 2, 3, 6, 7, 0, 0, 2]].concat(),
+        };
+        fault(failure, &Texts::of("[a]: b", Some("\n[a]: c")))
     }
 
     #[test]
@@ -128,6 +154,9 @@ mod tests {
             let fault = fault_of(number, value, 1, Some("c\n"));
             assert_eq!(fault.status(), 70, "{number} of the sheet");
         }
+        for text in [1, 2] {
+            assert_eq!(conflict(text).status(), 70, "9 of text {text}");
+        }
         assert_eq!(fault_of(1, 40_000, 2, Some("")).status(), 70);
         assert_eq!(fault_of(1, 40_000, 1, None).status(), 70);
     }
@@ -139,5 +168,15 @@ mod tests {
         assert!(said(2, 1, 1).starts_with("sheet:1:2: refusal 2: byte 0 "));
         assert!(said(1, 40_000, 1).starts_with("sheet:1:1: refusal 1: the sheet has 40000 "));
         assert!(said(7, 0, 0).starts_with("note:1:1: refusal 7: "));
+    }
+
+    #[test]
+    fn a_conflict_stands_where_its_definition_does() {
+        let fault = conflict(0);
+        assert_eq!(fault.status(), 9);
+        assert_eq!(
+            fault.to_string(),
+            "sheet:2:1: refusal 9: \"[a]\" opens c here and b at line 1 of note; keep one"
+        );
     }
 }

@@ -3,6 +3,7 @@
 //! no is wanted, the rooms here answer: as the rule says, but for the wrong readings they name.
 
 mod answers;
+mod conflicts;
 mod definitions;
 mod labels;
 mod lines;

@@ -63,6 +63,7 @@ pub(super) fn all() -> Vec<Wrong> {
     all.extend(SHORT.map(Wrong::WritesWhatFits));
     all.extend(FORMS.map(Wrong::Forgives));
     all.extend(two_texts());
+    all.extend(conflicts());
     all
 }
 
@@ -126,7 +127,7 @@ fn two_texts() -> Vec<Wrong> {
     let texts = [Origin::Note, Origin::Sheet];
     let mut all = Vec::new();
     all.extend(of_text.map(Wrong::SheetUnchecked));
-    all.extend((number::SUCCESS..=number::NOT_A_LABEL).map(Wrong::NamesSheet));
+    all.extend((number::SUCCESS..=number::CONFLICTING_DEFINITIONS).map(Wrong::NamesSheet));
     all.extend(of_text.map(Wrong::NamesNote));
     all.extend(texts.map(Wrong::EnquiryNames));
     all.extend(texts.map(Wrong::PartOf));
@@ -135,6 +136,27 @@ fn two_texts() -> Vec<Wrong> {
         all.push(Wrong::InlineFromSheet(written));
     }
     all.extend([0, 1, 2].map(Wrong::OneText));
+    all
+}
+
+/// What is compared of two definitions, in which text, and when.
+fn conflicts() -> Vec<Wrong> {
+    let texts = [Origin::Note, Origin::Sheet];
+    let mut all = Vec::new();
+    for written in [Written::Destination, Written::Title] {
+        all.extend([
+            Wrong::UndoneCompared(written),
+            Wrong::FoldedCompared(written),
+            Wrong::ComparedAsLabels(written),
+            Wrong::LengthsCompared(written),
+            Wrong::DelimitersCompared(written),
+        ]);
+        all.extend(texts.map(|text| Wrong::ComparedFrom(text, written)));
+    }
+    all.extend(texts.map(Wrong::OneTextCompared));
+    let order = number::SUCCESS..=number::PAGE_TOO_SHORT;
+    let others = order.filter(|refusal| *refusal != number::FEW_DEFINITION_ROWS);
+    all.extend(others.map(Wrong::ConflictsAfter));
     all
 }
 

@@ -221,7 +221,7 @@ impl Reader {
 }
 
 /// How many definitions of the joined list are the note's.
-fn count_of_note(joined: &[Definition]) -> usize {
+pub(super) fn count_of_note(joined: &[Definition]) -> usize {
     joined.partition_point(|definition| !definition.is_of_sheet())
 }
 
@@ -237,7 +237,7 @@ fn goes_on(refusal: Refusal, length: usize) -> Refusal {
 }
 
 /// The bytes with `?` for each that is no part of a good character.
-fn without_bad_bytes(bytes: &[u8]) -> Vec<u8> {
+pub(super) fn without_bad_bytes(bytes: &[u8]) -> Vec<u8> {
     let mut bytes = bytes.to_vec();
     while let Err(place) = Reader::RIGHT.good_text(&bytes) {
         bytes[place] = b'?';

@@ -55,6 +55,22 @@ macro_rules! switches {
             InlineFromSheet(Written),
             /// Note and sheet are read as one text, with so many LFs between them.
             OneText(usize),
+            /// It is compared with its escapes undone.
+            UndoneCompared(Written),
+            /// It is compared with A to Z folded.
+            FoldedCompared(Written),
+            /// It is compared as labels are.
+            ComparedAsLabels(Written),
+            /// Its length is compared in the place of its bytes.
+            LengthsCompared(Written),
+            /// It is compared with the delimiter before it.
+            DelimitersCompared(Written),
+            /// What is compared is taken from this text always.
+            ComparedFrom(Origin, Written),
+            /// Definitions of this text alone are compared.
+            OneTextCompared(Origin),
+            /// Conflicts are judged after the refusal with this number, not after 3; 0 before all.
+            ConflictsAfter(u32),
         }
 
         /// The switches without a parameter.
@@ -171,6 +187,55 @@ switches! {
     SheetOnPage,
     /// Refusal 4 reads the sheet too.
     SheetDeep,
+
+    // Conflicting definitions.
+    /// Refusal 9 is given though it is for no release.
+    ConflictsAlways,
+    ConflictsIgnored,
+    DestinationsUncompared,
+    /// Neither the bytes of titles nor their presence are compared.
+    TitlesUncompared,
+    /// Of titles, only their presence is compared.
+    TitleBytesUncompared,
+    /// An empty title and none are the same.
+    EmptyTitleIsNone,
+    /// The places of destination and title are compared, not their bytes.
+    PlacesCompared,
+    /// A definition with the label of an earlier one conflicts, whatever it says.
+    RepeatsConflict,
+    /// Definitions are compared whatever their labels.
+    AnyLabelsConflict,
+    /// Definitions are compared where the bytes of their labels agree.
+    LabelBytesCompared,
+    /// A definition is compared with the one before it alone.
+    NeighboursCompared,
+    /// A definition is compared with those of its own text alone.
+    TextsComparedApart,
+    /// A definition is compared with those of the other text alone.
+    TextsComparedAcross,
+    LastConflict,
+    /// Of two conflicts the one whose earlier definition is the first is answered.
+    FirstOfEarlier,
+    /// The value is the row number from 0.
+    ConflictFromZero,
+    /// The value is the row number of the earlier definition.
+    ConflictIsEarlier,
+    /// The value is counted in the definition's own text.
+    ConflictInOwnText,
+    /// The value is the definition's line.
+    ConflictIsLine,
+    /// The value is where the definition starts.
+    ConflictIsPlace,
+    /// The answer names the text of the definition.
+    ConflictNamesItsText,
+    /// After 9 the definition table is unchanged.
+    ConflictTakesBack,
+    /// After 9 the definition table holds the rows before the one that is answered.
+    RowsBeforeConflict,
+    /// After 9 the span table holds its rows, where as many are lent.
+    SpansDespiteConflict,
+    /// After 9 the page stands, where as many bytes are lent.
+    PageDespiteConflict,
 
     // Labels.
     LabelOneShorter,
@@ -331,6 +396,8 @@ switches! {
     // The enquiry.
     /// The enquiry gives refusal 4 too.
     EnquiryRefusesDeep,
+    /// The enquiry gives refusal 9 too.
+    EnquiryRefusesConflicts,
     LabelBeforeNote,
     /// The label is checked after the note and before the sheet.
     LabelBeforeSheet,
@@ -357,6 +424,7 @@ impl Wrong {
         matches!(
             self,
             Wrong::EnquiryRefusesDeep
+                | Wrong::EnquiryRefusesConflicts
                 | Wrong::LabelBeforeNote
                 | Wrong::LabelBeforeSheet
                 | Wrong::NoLabelIsUndefined

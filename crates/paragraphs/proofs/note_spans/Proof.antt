@@ -5,9 +5,9 @@ use native.Mathlib.Omega.{arith}
 use mathlib.Core.Path.{_≡_, refl, _∙_}
 use lib.ListN.{length}
 use Rattle.texts.specs.Texts.{texts}
-use Rattle.notice.proofs.Turns.{Going, starts, same-size, all-passed, less, place-fits, place-within, too-deep, further}
-use Rattle.notice.proofs.note_spans.Statement.{statement}
-use Rattle.notice.proofs.note_spans.Tie as tie
+use Rattle.paragraphs.proofs.Turns.{Going, starts, same-size, all-passed, less, place-fits, place-within, too-deep, further}
+use Rattle.paragraphs.proofs.note_spans.Statement.{statement}
+use Rattle.paragraphs.proofs.note_spans.Tie as tie
 
 ruleset turns = (same-size, all-passed, less, place-fits, needs)
 

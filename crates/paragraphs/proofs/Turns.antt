@@ -36,8 +36,8 @@ use Rattle.step.specs.Promise.{first}
 use Rattle.step.specs.declared.Walk.{Walk}
 use Rattle.note.specs.Note.{depthLimit}
 use Rattle.paragraph.specs.Promise.{Lies, Reads}
-use Rattle.notice.specs.Spans.{Defined, NoteMarked}
-use Rattle.notice.proofs.Filling.{store-all, filled-numbers, numbers-for}
+use Rattle.paragraphs.specs.Spans.{Defined, NoteMarked}
+use Rattle.paragraphs.proofs.Filling.{store-all, filled-numbers, numbers-for}
 
 -- ---- which of the two answers it was
 pub was-spans : (o : Option ℕ) (v : Walk) {w : Walk} → tallyOf o v ≡ Spans w → (o ≡ none) × (v ≡ w)

@@ -12,8 +12,7 @@ use Rattle.span.specs.Row.{width, numbers, wholeRows, filled}
 use Rattle.inline.specs.Tails.{Tail}
 use Rattle.inline.specs.ReadingRows.{rowFor, spanRow}
 use Rattle.step.specs.Reading.{storedAll}
-use Rattle.notice.specs.Reading.{spansFilled}
-use Rattle.notice.specs.Claims.{spanNumbers}
+use Rattle.paragraphs.specs.Spans.{spanNumbers, spansFilled}
 
 module _ (s : List ℕ) where
   pub store-all : (t₀ : List ℕ) (passed xs : List Span) {t : List ℕ} {k : ℕ} → t ≡ filled s passed t₀ → k ≡ length passed → storedAll s t k xs ≡ filled s (passed ++ xs) t₀
