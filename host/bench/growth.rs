@@ -6,7 +6,7 @@ use std::process::ExitCode;
 use host::generate::bench_notes::{self, BenchNote};
 use host::second::LONGEST_NOTE;
 
-use crate::measure::{best_times, Candidate};
+use crate::measure::{best_of_tries, best_times, Candidate};
 use crate::ours::Lent;
 use crate::ROUNDS;
 
@@ -15,8 +15,6 @@ const MOST: f64 = 2.2;
 /// Their times grow with the definitions as well: each reference is looked up among them, and for a release each
 /// definition.
 const EXCEPTED: [&str; 3] = ["references", "references_sheet", "definitions_release"];
-/// How often the times of a note are taken at most.
-const MOST_TRIES: usize = 8;
 const SIZES: [usize; 3] = [LONGEST_NOTE / 4, LONGEST_NOTE / 2, LONGEST_NOTE];
 
 /// Prints the growth of the notes that are chosen, and fails where one grows too fast.
@@ -46,8 +44,8 @@ pub fn run(chosen: impl Fn(&BenchNote) -> bool) -> ExitCode {
 /// The reader's two steps, and the page writer's.
 fn growth(notes: [&BenchNote; 3]) -> [f64; 4] {
     let lent = notes.map(Lent::for_note);
-    let reader = best_of_tries(|| times(notes, lent.clone(), Lent::read));
-    let page_writer = best_of_tries(|| times(notes, lent.clone(), Lent::render));
+    let reader = best_of_tries(|| times(notes, lent.clone(), Lent::read), good);
+    let page_writer = best_of_tries(|| times(notes, lent.clone(), Lent::render), good);
     let [first, second] = steps(reader);
     let [third, fourth] = steps(page_writer);
     [first, second, third, fourth]
@@ -57,18 +55,9 @@ fn steps(times: [f64; 3]) -> [f64; 2] {
     [times[1] / times[0], times[2] / times[1]]
 }
 
-/// The best times of a few tries: another one is made where a step looks too large, since a busy
-/// machine may have slowed one of the sizes alone.
-fn best_of_tries(measure: impl Fn() -> [f64; 3]) -> [f64; 3] {
-    let mut best = [f64::INFINITY; 3];
-    for _ in 0..MOST_TRIES {
-        let times = measure();
-        best = [0, 1, 2].map(|size| best[size].min(times[size]));
-        if steps(best).iter().all(|step| *step <= MOST) {
-            break;
-        }
-    }
-    best
+/// No step is too large.
+fn good(times: [f64; 3]) -> bool {
+    steps(times).iter().all(|step| *step <= MOST)
 }
 
 /// The best times of a call on each of the notes.

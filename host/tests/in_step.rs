@@ -32,20 +32,19 @@ fn check(labels: &LongLabels) {
     }
 }
 
-/// What the unequal labels take, in times of the equal ones, and a line that says it.
-fn ratio(labels: &LongLabels) -> (f64, String) {
+/// The unequal labels take at most this, in times of the equal ones.
+fn check_ratio(labels: &LongLabels, most: f64) {
     check(labels);
-    let times = Times::of(labels);
+    let times = Times::of(labels, most);
     let line = format!("{}: {} ns", labels.name, times.shown().join(", "));
     println!("{line}");
-    (times.ratio(), line)
+    assert!(times.ratio() <= most, "over {most}, {line}");
 }
 
 #[test]
 fn unequal_labels_take_a_tenth_of_the_time_of_equal_ones() {
     for labels in long_labels::all() {
-        let (ratio, line) = ratio(&labels);
-        assert!(ratio <= MOST, "{line}");
+        check_ratio(&labels, MOST);
     }
 }
 
@@ -53,8 +52,7 @@ fn unequal_labels_take_a_tenth_of_the_time_of_equal_ones() {
 #[test]
 fn a_later_difference_ends_the_comparison_too() {
     for place in [100, 250, 500] {
-        let (ratio, line) = ratio(&long_labels::differing_at(place));
         let share = place as f64 / LONGEST_LABEL as f64;
-        assert!(ratio <= share + 0.2, "different at {place}, {line}");
+        check_ratio(&long_labels::differing_at(place), share + 0.2);
     }
 }
