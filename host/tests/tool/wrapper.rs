@@ -1,9 +1,7 @@
 //! The wrapper at the repository's root, with a stand-in for the kit and for cargo.
 
-use std::os::unix::fs::{symlink, PermissionsExt};
-use std::path::Path;
+use std::os::unix::fs::symlink;
 use std::process::{Command, Stdio};
-use std::time::{Duration, SystemTime};
 
 use crate::run::{Folder, Ran, TOOL};
 
@@ -22,7 +20,8 @@ fn repository() -> Folder {
     folder.write("repository/host/build.rs", b"");
     folder.write("repository/host/Cargo.toml", b"");
     folder.write("ward/note.md", NOTE);
-    std::fs::copy(WRAPPER, folder.path().join("repository/notice")).expect("the wrapper");
+    let wrapper = folder.path().join("repository/notice");
+    system(Command::new("cp").arg(WRAPPER).arg(wrapper));
     program(
         &folder,
         "rt",
@@ -36,6 +35,13 @@ fn repository() -> Folder {
     folder
 }
 
+/// Runs a program of the system. What is run later is written by such a one: a file that this process has open
+/// for writing can't be run, nor one that another test's child has got from it.
+fn system(command: &mut Command) {
+    let status = command.status();
+    assert!(status.is_ok_and(|status| status.success()), "{command:?}");
+}
+
 /// A program that stands in for another: it reads its input, notes the call and does `work`.
 fn program(folder: &Folder, name: &str, work: &str) {
     let calls = folder.path().join("calls");
@@ -43,8 +49,17 @@ fn program(folder: &Folder, name: &str, work: &str) {
         "#!/bin/sh\ncat\necho \"{name} $*\" >>'{}'\necho chatter\necho chatter >&2\n{work}\n",
         calls.display()
     );
-    let path = folder.write(Path::new("bin").join(name), script.as_bytes());
-    std::fs::set_permissions(path, PermissionsExt::from_mode(0o755)).expect("a program");
+    let path = folder.path().join("bin").join(name);
+    let write = "mkdir -p \"${2%/*}\" && printf %s \"$1\" >\"$2\" && chmod 755 \"$2\"";
+    let words = ["-c", write, "sh", &script];
+    system(Command::new("sh").args(words).arg(path));
+}
+
+/// Sets the time of a file to so many seconds from now.
+fn touch(folder: &Folder, name: &str, seconds: i32) {
+    let time = format!("{seconds} seconds");
+    let path = folder.path().join(name);
+    system(Command::new("touch").args(["-d", &time]).arg(path));
 }
 
 /// Runs the wrapper in the folder `ward` with the note on standard input.
@@ -124,22 +139,13 @@ fn builds_again_what_is_older_than_its_sources() {
     let folder = repository();
     run(&folder, "../repository/notice", &["--version"]);
     calls(&folder);
-    let later = SystemTime::now() + Duration::from_secs(1);
-    let touch = |name: &str, time| {
-        let file = std::fs::File::options()
-            .append(true)
-            .open(folder.path().join(name));
-        file.and_then(|file| file.set_modified(time))
-            .expect("a time set");
-    };
-    let earlier = SystemTime::now() - Duration::from_secs(60);
-    touch(LIBRARY, earlier);
+    touch(&folder, LIBRARY, -60);
     run(&folder, "../repository/notice", &["--version"]);
     assert_eq!(calls(&folder), [RT, CARGO]);
-    touch(BUILT, earlier);
+    touch(&folder, BUILT, -60);
     run(&folder, "../repository/notice", &["--version"]);
     assert_eq!(calls(&folder), [CARGO]);
-    touch("repository/host/src/lib.rs", later);
+    touch(&folder, "repository/host/src/lib.rs", 60);
     run(&folder, "../repository/notice", &["--version"]);
     assert_eq!(calls(&folder), [CARGO]);
 }
