@@ -73,8 +73,9 @@
  * to five times as long, up to 0.6 s where a note alone took 0.1 to 0.16 s.
  *
  * All these times are with release no. With yes each definition is looked up too, among those before it one by one, so that the
- * time for it grows with the square of the number of definitions: texts of definitions alone took up to 38 ms, and up to 155 ms with
- * as many in the sheet.
+ * time for it grows with the square of the number of definitions: texts of definitions alone, with labels that start alike, took up
+ * to 38 ms on the Xeon, and up to 155 ms with as many in the sheet; on the EPYC 25 and 96 ms, and 36 and 141 ms where their letters
+ * differ in case too.
  *
  * A comparison of two labels costs what they have in common: labels of 999 characters took 4 to 10 ns where they differ in the first,
  * and 0.5 to 3.7 us where they are equal.
