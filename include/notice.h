@@ -18,8 +18,11 @@
  * The sheet may be empty, that is, of length 0. Then the answers are those of the note alone, each definition row behind a
  * leading 0, and the text they name is NOTICE_NOTE.
  *
- * Labels are equal if their bytes agree after A to Z became a to z, spaces, tabs and LFs at both ends were dropped, and each run of
- * them inside became one space. Backslashes are kept.
+ * Labels are equal if their bytes agree after each character was folded, spaces, tabs and LFs at both ends were dropped, and each run
+ * of them inside became one space. Backslashes are kept. Characters are folded by Unicode's CaseFolding 15.0, rows C and F, from
+ * U+0000 to U+052F: A to Z, and Latin, Greek and Cyrillic letters become small ones, and a few become several, as U+00DF "ss". Later
+ * characters match only themselves, U+1E9E, U+2126 and U+212A among them, and so does a byte that stands in no good character. Only
+ * labels are folded, and the 999 characters of a label are counted before.
  *
  * notice_read and notice_render take a setting, `release`: 0 is no, any other number yes. With yes, for a note that goes out, they
  * refuse definitions that conflict. Two definitions conflict if their labels are equal and they differ in the bytes of the
@@ -55,9 +58,9 @@
  *
  * Cost
  *
- * Stack: a call takes less than 48 KiB for itself, whatever the texts (46,608 bytes at most, 640 for notice_resolve, 88 for
- * notice_same_label). It was measured on the notes of the benchmark, beside their sheets and as their own sheets, by running each
- * entry on a stack that was marked before; the library's tests do so again.
+ * Stack: a call takes less than 52 KiB for itself, whatever the texts (49,848 bytes at most, 3,544 for notice_resolve, 3,160 for
+ * notice_same_label; 2,656 of each are the table of folding). It was measured on the notes of the benchmark, beside their sheets and
+ * as their own sheets, by running each entry on a stack that was marked before; the library's tests do so again.
  *
  * Time: but for one thing, reading costs what the lengths of the note and the sheet cost, and the page its own length besides. It was
  * measured on virtual cores of an AMD EPYC and an Intel Xeon (x86-64), with 222,913 notes of the longest size beside an empty sheet,
@@ -69,7 +72,8 @@
  * What costs more is lookup, since each reference is looked up among the definitions of both texts one by one. 500 definitions and as
  * many references to them as fit took 9 ms; of notes made to be slow, some 1,600 definitions and 1,500 references whose labels differ
  * only at their ends, and in the case of their letters, took 66 ms on one machine and up to 240 ms on a slower one, the longest that
- * was found for a note alone. A note of references beside a sheet of definitions has room for twice as many of each, and took three
+ * was found for a note alone in ASCII; in Cyrillic letters such notes took twice as long, and with U+00DF and "ss" a little more: 120 and
+ * 132 ms on a machine where ASCII ones took 58. A note of references beside a sheet of definitions has room for twice as many of each, and took three
  * to five times as long, up to 0.6 s where a note alone took 0.1 to 0.16 s.
  *
  * All these times are with release no. With yes each definition is looked up too, among those before it one by one, so that the
@@ -77,8 +81,9 @@
  * to 38 ms on the Xeon, and up to 155 ms with as many in the sheet; on the EPYC 25 and 96 ms, and 36 and 141 ms where their letters
  * differ in case too.
  *
- * A comparison of two labels costs what they have in common: labels of 999 characters took 4 to 10 ns where they differ in the first,
- * and 0.5 to 3.7 us where they are equal.
+ * A comparison of two labels costs what they have in common: labels of 999 characters took 4 ns where they differ in the first, some
+ * 50 ns where these are beyond ASCII, and 0.5 to 4 us where they are equal, 1.4 to 9 us in Cyrillic letters, and 17 us for U+00DF with
+ * "SS".
  *
  *
  * Answers

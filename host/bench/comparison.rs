@@ -4,7 +4,7 @@ use std::hint::black_box;
 use std::time::Duration;
 
 use host::entries;
-use host::generate::long_labels::LongLabels;
+use host::generate::long_labels::{Letters, LongLabels};
 
 use crate::measure::{best_of_tries, best_times, Candidate, Rounds};
 
@@ -48,12 +48,43 @@ fn times(labels: &LongLabels) -> [f64; 3] {
         unequal,
         ..
     } = labels;
-    let pairs = [(own, equal), (own, unequal), (unequal, own)];
+    times_of([(own, equal), (own, unequal), (unequal, own)])
+}
+
+/// The best times of comparing each two labels.
+fn times_of<const COUNT: usize>(pairs: [(&str, &str); COUNT]) -> [f64; COUNT] {
     let mut candidates = pairs.map(|(a, b)| {
-        let [a, b] = [a, b].map(String::as_bytes);
+        let [a, b] = [a, b].map(str::as_bytes);
         Some(Candidate::new(move || {
             entries::same_label(black_box(a), black_box(b))
         }))
     });
     best_times(&mut candidates, ROUNDS).map(|time| time.unwrap_or(f64::INFINITY))
+}
+
+/// The most that labels in Cyrillic letters may take, in times of Latin ones of as many characters.
+pub const MOST_IN_CYRILLIC: f64 = 3.0;
+
+/// The best times in nanoseconds of equal labels in letters of each kind.
+pub struct TimesInLetters(pub [f64; 5]);
+
+impl TimesInLetters {
+    /// They are taken again where a ratio is too large.
+    pub fn of(labels: &[Letters; 5]) -> TimesInLetters {
+        let pairs = || std::array::from_fn(|at| (&*labels[at].one, &*labels[at].other));
+        TimesInLetters(best_of_tries(
+            || times_of(pairs()),
+            |times| TimesInLetters(times).are_good(),
+        ))
+    }
+
+    /// What Cyrillic letters take, in times of Latin ones: the same bytes, and in the other case.
+    pub fn ratios(&self) -> [f64; 2] {
+        let [latin, latin_case, cyrillic, cyrillic_case, _] = self.0;
+        [cyrillic / latin, cyrillic_case / latin_case]
+    }
+
+    pub fn are_good(&self) -> bool {
+        self.ratios().iter().all(|ratio| *ratio <= MOST_IN_CYRILLIC)
+    }
 }

@@ -27,6 +27,11 @@ impl Lent {
         }
     }
 
+    /// How many spans the note has.
+    pub fn spans(&self) -> usize {
+        self.wanted.span_count
+    }
+
     /// The answer's number.
     pub fn answer(&self) -> u32 {
         self.wanted.number

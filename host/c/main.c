@@ -395,6 +395,11 @@ static void same_labels(void) {
     same_label_case("max\\!", 5, "max!", 4, 0);
     same_label_case("max\0", 4, "max", 3, 0);
     same_label_case("\377\n\200", 3, "\377 \200 ", 4, 1);
+    /* Alpha in both cases, a sharp s and SS, the ohm sign and omega, a lead byte alone before alpha. */
+    same_label_case("\316\221", 2, "\316\261", 2, 1);
+    same_label_case("\303\237", 2, "SS", 2, 1);
+    same_label_case("\342\204\246", 3, "\317\211", 2, 0);
+    same_label_case("\316\316\221", 3, "\316\316\261", 3, 1);
     same_label_case(NULL, 0, "", 0, 1);
     same_label_case(NULL, 0, " \t\n", 3, 1);
     same_label_case(NULL, 0, NULL, 0, 1);

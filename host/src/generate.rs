@@ -7,3 +7,4 @@ pub mod grammar;
 pub mod long_labels;
 pub mod repeats;
 pub mod sheets;
+pub mod spellings;

@@ -1,30 +1,63 @@
-//! The examples of the sources, each a note and the page it stands for.
+//! The examples of the sources and of the standard, each a note and the page it stands for.
 
 use crate::json::{self, Value};
 
-const FILE: &str = include_str!("../tests/data/examples.json");
+const SOURCES: &str = include_str!("../tests/data/examples.json");
+const STANDARD: &str = include_str!("../tests/data/gfm-0.29-examples.json");
+
+/// The requests of document 02 that are in force.
+pub const IN_FORCE: [usize; 6] = [1, 2, 3, 4, 8, 9];
+
+/// The examples whose page is not given, though no request is missing, and why.
+pub const UNMET: [(&str, &str); 1] = [(
+    "example 000 548",
+    "its label U+1E9E folds to ss by a row past U+052F; \"Later characters match themselves\" (document 02, request 3)",
+)];
 
 /// One example.
 pub struct Example {
     pub name: String,
-    /// `base` if it is in scope, `waiting` if it is not read yet, `out` if it is out of scope.
+    /// `base` if document 01 gives its page, `waiting` if that takes requests of document 02, `out` if it is out of
+    /// scope.
     pub status: String,
+    /// The requests that it takes.
+    needs: Vec<usize>,
     pub note: String,
     pub page: String,
 }
 
 impl Example {
-    /// Whether it is in scope.
-    pub fn is_base(&self) -> bool {
-        self.status == "base"
+    /// Whether it is in scope, with no request missing.
+    pub fn is_in_scope(&self) -> bool {
+        self.status != "out" && self.needs.iter().all(|request| IN_FORCE.contains(request))
+    }
+
+    /// Why its page is not given all the same.
+    pub fn unmet(&self) -> Option<&'static str> {
+        let unmet = UNMET.iter().find(|(name, _)| *name == self.name);
+        unmet.map(|(_, why)| *why)
+    }
+
+    /// Whether its page has to be given.
+    pub fn is_met(&self) -> bool {
+        self.is_in_scope() && self.unmet().is_none()
     }
 }
 
-/// Every example, in the order of the file.
+/// Every example of the sources, in the order of the file.
 pub fn examples() -> Vec<Example> {
-    let file = json::parse(FILE).expect("the file of examples is JSON");
+    list(SOURCES).iter().map(example).collect()
+}
+
+/// Every example of the standard's sections on inlines and on definitions, in its order.
+pub fn standard_examples() -> Vec<Example> {
+    list(STANDARD).iter().map(standard_example).collect()
+}
+
+fn list(file: &str) -> Vec<Value> {
+    let file = json::parse(file).expect("the file of examples is JSON");
     let list = file.as_array().expect("the file of examples is a list");
-    list.iter().map(example).collect()
+    list.to_vec()
 }
 
 fn example(value: &Value) -> Example {
@@ -32,6 +65,25 @@ fn example(value: &Value) -> Example {
     Example {
         name: format!("example {}", name.join(" ")),
         status: string(value, "status"),
+        needs: numbers(value, "needs"),
+        note: string(value, "markdown"),
+        page: with_last_line_feed(string(value, "html")),
+    }
+}
+
+/// An example of the standard is out of scope, or says which requests it takes.
+fn standard_example(value: &Value) -> Example {
+    let in_scope = value.get("out").is_none();
+    let needs = in_scope.then(|| numbers(value, "requests"));
+    let status = match needs.as_deref() {
+        None => "out",
+        Some([]) => "base",
+        Some(_) => "waiting",
+    };
+    Example {
+        name: format!("example GFM {}", string(value, "number")),
+        status: status.to_string(),
+        needs: needs.unwrap_or_default(),
         note: string(value, "markdown"),
         page: with_last_line_feed(string(value, "html")),
     }
@@ -43,6 +95,13 @@ fn string(value: &Value, field: &str) -> String {
         Some(Value::Number(number)) => number.to_string(),
         other => panic!("field {field} is {other:?}"),
     }
+}
+
+fn numbers(value: &Value, field: &str) -> Vec<usize> {
+    let list = value.get(field).and_then(Value::as_array);
+    let list = list.unwrap_or_else(|| panic!("field {field} is no list"));
+    let number = |item: &Value| item.as_number().expect("a number") as usize;
+    list.iter().map(number).collect()
 }
 
 /// "Each paragraph: `<p>`, content, `</p>`, LF"; an example's html may lack the last LF.

@@ -64,9 +64,9 @@ const TABLES_AND_PAGE: usize = 0;
 const ENQUIRY: usize = 1;
 const COMPARISON: usize = 2;
 
-/// The parts in which a wrong reading has to show: what is the enquiry's alone in the enquiry,
-/// everything else in the tables or the page; what all entries do with the two texts in the enquiry too,
-/// and which labels are equal in the comparison too.
+/// The parts in which a wrong reading has to show: what is the enquiry's alone in the enquiry, what is the
+/// comparison's alone in the comparison, everything else in the tables or the page; what all entries do with the
+/// two texts in the enquiry too, and which labels are equal in the enquiry and the comparison too.
 fn shows_in(wrong: Wrong) -> &'static [usize] {
     if wrong.is_of_enquiry() {
         return &[ENQUIRY];
@@ -74,8 +74,11 @@ fn shows_in(wrong: Wrong) -> &'static [usize] {
     if wrong.is_of_both_texts() {
         return &[TABLES_AND_PAGE, ENQUIRY];
     }
+    if wrong.is_of_ill_formed_labels() {
+        return &[COMPARISON];
+    }
     if wrong.is_of_comparison() {
-        return &[TABLES_AND_PAGE, COMPARISON];
+        return &[TABLES_AND_PAGE, ENQUIRY, COMPARISON];
     }
     &[TABLES_AND_PAGE]
 }
@@ -128,5 +131,5 @@ fn every_wrong_reading_is_told_apart() {
     assert!(missed.is_empty(), "told apart by no case: {missed:?}");
     let kinds = Wrong::kinds();
     println!("{kinds} kinds, {} readings", Wrong::all().len());
-    assert!(kinds >= 224, "{kinds} kinds");
+    assert!(kinds >= 249, "{kinds} kinds");
 }

@@ -6,7 +6,7 @@
 extern crate host as package;
 extern crate self as host;
 
-pub use package::{cases, json, sources};
+pub use package::{case_folding, cases, json, sources};
 
 /// The library in the second reader's form.
 pub mod second {
@@ -15,6 +15,8 @@ pub mod second {
         number, DefinitionRow, ReadAnswer, RenderAnswer, ResolveAnswer, SpanRow,
         DEFINITION_ROW_WIDTH, SPAN_ROW_WIDTH,
     };
+    // The second reader itself, for answers that are held against both.
+    pub use package::second::{Reader, Wrong};
 
     /// A number and a byte that stand in no row and no page.
     const NUMBER: u32 = u32::MAX;

@@ -1,7 +1,7 @@
-//! The examples of the sources against the second reader.
+//! The examples of the sources and of the standard against the second reader.
 
 use host::second::{self, RenderAnswer};
-use host::sources::examples;
+use host::sources::{examples, standard_examples, Example, UNMET};
 
 /// The page writer with more lent than any note needs.
 fn render(note: &str, sheet: &str, release: bool) -> RenderAnswer {
@@ -15,6 +15,16 @@ fn page(note: &str) -> String {
     String::from_utf8(answer.page.expect("a page on success")).expect("a page in UTF-8")
 }
 
+/// How many of the sources' examples are met: those of document 01, and those of request 3 but for one.
+const MET: usize = 229 + 4;
+
+/// The examples of the sources that are met.
+fn met() -> Vec<Example> {
+    let mut examples = examples();
+    examples.retain(Example::is_met);
+    examples
+}
+
 #[test]
 fn every_example_has_its_place() {
     let examples = examples();
@@ -23,25 +33,75 @@ fn every_example_has_its_place() {
     assert_eq!(count("base"), 229);
     assert_eq!(count("waiting"), 104);
     assert_eq!(count("out"), 8);
+    assert_eq!(examples.iter().filter(|e| e.is_in_scope()).count(), 229 + 5);
+    assert_eq!(met().len(), MET);
+    let standard = standard_examples();
+    let count = |status: &str| standard.iter().filter(|e| e.status == status).count();
+    assert_eq!(standard.len(), 364);
+    assert_eq!(count("base"), 181);
+    assert_eq!(count("out"), 20);
+    assert_eq!(standard.iter().filter(|e| e.is_met()).count(), 181 + 2);
 }
 
-#[test]
-fn pages_of_the_base_examples() {
-    let mut run = 0;
+/// Fails where a page is another than the example's.
+fn check_pages(examples: &[Example]) {
     let mut failed = Vec::new();
-    for example in examples().iter().filter(|example| example.is_base()) {
-        run += 1;
+    for example in examples {
         let made = page(&example.note);
         if made != example.page {
             println!(
                 "{}: note {:?}\n  wanted {:?}\n  made   {:?}",
                 example.name, example.note, example.page, made
             );
-            failed.push(example.name.clone());
+            failed.push(&example.name);
         }
     }
-    assert_eq!(run, 229);
     assert!(failed.is_empty(), "{} failed: {failed:?}", failed.len());
+}
+
+#[test]
+fn pages_of_the_sources_examples() {
+    check_pages(&met());
+}
+
+#[test]
+fn pages_of_the_standards_examples() {
+    let mut examples = standard_examples();
+    examples.retain(Example::is_met);
+    check_pages(&examples);
+}
+
+/// The examples that folding is for, by their names.
+#[test]
+fn examples_of_request_3() {
+    let mut examples = examples();
+    examples.extend(standard_examples());
+    examples.retain(|example| example.status == "waiting" && example.is_in_scope());
+    let names: Vec<&str> = examples.iter().map(|e| e.name.as_str()).collect();
+    let wanted = [
+        "example 000 548",
+        "example 001 526",
+        "example 002 175",
+        "example 003 13",
+        "example 003 51",
+        "example GFM 175",
+        "example GFM 548",
+    ];
+    assert_eq!(names, wanted);
+}
+
+/// The page of an example that stays unmet is another: the label is no link, since nothing equals it.
+#[test]
+fn unmet_examples() {
+    let mut examples = examples();
+    examples.retain(|example| example.unmet().is_some());
+    assert_eq!(examples.len(), UNMET.len());
+    for example in examples {
+        let why = example.unmet().unwrap_or_default();
+        assert!(example.is_in_scope() && !example.is_met(), "{why}");
+        assert_ne!(page(&example.note), example.page, "{why}");
+    }
+    assert_eq!(page("[\u{1e9e}]\n\n[SS]: /url"), "<p>[\u{1e9e}]</p>\n");
 }
 
 /// The definitions of an example in a sheet beside the note: the page is the same where no paragraph is left
@@ -49,7 +109,7 @@ fn pages_of_the_base_examples() {
 #[test]
 fn definitions_in_a_sheet_give_the_same_page() {
     let mut run = 0;
-    for example in examples().iter().filter(|example| example.is_base()) {
+    for example in met() {
         let blocks = || example.note.split_inclusive("\n\n");
         let defines = |block: &&str| page(block).is_empty();
         let sheet: String = blocks().filter(defines).collect();
@@ -73,7 +133,7 @@ const CONFLICTING: [&str; 3] = ["example 000 552", "example 001 530", "example 0
 #[test]
 fn only_conflicting_examples_stop_a_release() {
     let mut stopped = 0;
-    for example in examples().iter().filter(|example| example.is_base()) {
+    for example in met() {
         let answer = render(&example.note, "", true);
         let name = example.name.as_str();
         if CONFLICTING.contains(&name) {
@@ -91,10 +151,10 @@ fn only_conflicting_examples_stop_a_release() {
 #[test]
 fn a_final_line_feed_changes_no_page() {
     let mut run = 0;
-    for example in examples().iter().filter(|example| example.is_base()) {
+    for example in met() {
         run += 1;
         let note = format!("{}\n", example.note);
         assert_eq!(page(&note), example.page, "{}: {note:?}", example.name);
     }
-    assert_eq!(run, 229);
+    assert_eq!(run, MET);
 }

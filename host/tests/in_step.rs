@@ -1,5 +1,6 @@
 //! Labels are compared in step, up to the first difference: "two labels of 999 characters that differ in
-//! the first take at most a tenth of the time of two equal ones."
+//! the first take at most a tenth of the time of two equal ones." Those in Cyrillic letters take at most three times
+//! as long as Latin ones of as many characters.
 
 #[path = "../bench/comparison.rs"]
 mod comparison;
@@ -7,10 +8,10 @@ mod comparison;
 mod measure;
 
 use host::entries;
-use host::generate::long_labels::{self, LongLabels};
+use host::generate::long_labels::{self, Letters, LongLabels};
 use host::second::{self, LONGEST_LABEL};
 
-use comparison::{Times, MOST};
+use comparison::{Times, TimesInLetters, MOST};
 
 /// The labels are what they are said to be.
 fn check(labels: &LongLabels) {
@@ -55,4 +56,27 @@ fn a_later_difference_ends_the_comparison_too() {
         let share = place as f64 / LONGEST_LABEL as f64;
         check_ratio(&long_labels::differing_at(place), share + 0.2);
     }
+}
+
+/// Equal labels, the first of the most characters.
+fn check_letters(labels: &Letters) {
+    let Letters { name, one, other } = labels;
+    assert_eq!(one.chars().count(), LONGEST_LABEL, "{name}");
+    let [one, other] = [one, other].map(String::as_bytes);
+    assert!(second::same_label(one, other), "{name}");
+    assert_eq!(entries::same_label(one, other), 1, "{name}");
+}
+
+#[test]
+fn cyrillic_labels_take_at_most_three_times_as_long_as_latin_ones() {
+    let labels = long_labels::in_letters();
+    labels.iter().for_each(check_letters);
+    let times = TimesInLetters::of(&labels);
+    let shown = labels.iter().zip(times.0);
+    let line: Vec<String> = shown
+        .map(|(labels, time)| format!("{} {time:.1} ns", labels.name))
+        .collect();
+    let line = line.join("; ");
+    println!("{line}");
+    assert!(times.are_good(), "{:?} times, {line}", times.ratios());
 }

@@ -2,26 +2,45 @@
 //! second reader. A case was answered when the requests in its `in_force` were. Where request 1 was not,
 //! the sheet is empty and a definition row has seven numbers: such a case holds behind a leading 0, where as
 //! many whole definition rows are lent. Those of request 4 are older than lines, but have no rows and lend no
-//! whole row, so that they stand as they were. Where request 8 was not, the case is for no release.
+//! whole row, so that they stand as they were. Where request 8 was not, the case is for no release. Where request 3
+//! was not, the answer is that of the second reader folding A to Z alone, which is checked; with request 3 it is the
+//! same, but for seven that are named here: of those the second reader's answer is wanted, its number and value as
+//! a person reads them off.
 
 use host::json::{self, Value};
 use host::second::{self, ReadAnswer, RenderAnswer, ResolveAnswer, DEFINITION_ROW_WIDTH};
+use host::second::{Reader, Wrong};
+use host::sources::IN_FORCE;
 
 const FILE: &str = include_str!("data/requests.json");
-/// The requests that are in force.
-const IN_FORCE: [usize; 5] = [1, 2, 4, 8, 9];
 /// The request that gave definition rows their leading number.
 const SHEET: f64 = 1.0;
 /// The request that gave the setting.
 const RELEASE: f64 = 8.0;
+/// The request that made folding go past Z.
+const FOLDING: f64 = 3.0;
+/// The older cases whose answers it changes, and what each is now, read off its texts: a label is found, another
+/// reference has a row, definitions conflict.
+const CHANGED: [(&str, u32, usize); 7] = [
+    ("r01-077", 0, 17),
+    ("r01-102", 5, 3),
+    ("r01-109", 0, 38),
+    ("r08-011", 9, 2),
+    ("r08-055", 9, 2),
+    ("r08-065", 9, 2),
+    ("r08-095", 9, 2),
+];
 
-/// A case: the two texts, the setting, and what is wanted.
+/// A case: the two texts, the setting, what is asked, and what is wanted.
 struct Case {
+    id: String,
     name: String,
+    folds: bool,
     note: Vec<u8>,
     sheet: Vec<u8>,
     release: bool,
-    wanted: Wanted,
+    asked: Asked,
+    wanted: Answer,
 }
 
 /// How many numbers are lent to each table.
@@ -31,13 +50,22 @@ struct Tables {
     span_numbers: usize,
 }
 
-/// What is wanted of the entry that a case is for.
-enum Wanted {
-    Read(Tables, ReadAnswer),
+/// What the entry is given beside the texts.
+enum Asked {
+    Read(Tables),
     /// With so many bytes lent to the page.
-    Page(Tables, usize, RenderAnswer),
-    /// For this label, with the part that is handed back.
-    Enquiry(Vec<u8>, ResolveAnswer, Vec<u8>),
+    Page(Tables, usize),
+    /// For this label.
+    Enquiry(Vec<u8>),
+}
+
+/// What the entry answers and leaves.
+#[derive(Debug, PartialEq, Eq)]
+enum Answer {
+    Read(ReadAnswer),
+    Page(RenderAnswer),
+    /// With the part that is handed back.
+    Enquiry(ResolveAnswer, Vec<u8>),
 }
 
 fn cases() -> Vec<Case> {
@@ -53,27 +81,40 @@ fn case(value: &Value) -> Case {
     assert!(in_force.iter().all(known), "{value:?}");
     let release = value.get("release") == Some(&Value::Bool(true));
     assert!(in_force.contains(&RELEASE) || !release, "{value:?}");
-    let before_sheets = !in_force.contains(&SHEET);
-    let expect = value.get("expect").expect("what is wanted");
-    let tables = || tables(value, before_sheets);
+    let (asked, wanted) = asked_and_wanted(value, !in_force.contains(&SHEET));
+    let id = string(value, "id");
     Case {
-        name: string(value, "id") + " " + string(value, "what").as_str(),
+        name: format!("{id} {}", string(value, "what")),
+        id,
+        folds: in_force.contains(&FOLDING),
         note: bytes(value, "note_hex"),
         sheet: bytes(value, "sheet_hex"),
         release,
-        wanted: match string(value, "entry").as_str() {
-            "read" => Wanted::Read(tables(), wanted_reading(expect, before_sheets)),
-            "page" => {
-                let page_bytes = number(value, "page_bytes");
-                Wanted::Page(tables(), page_bytes, wanted_page(expect, before_sheets))
-            }
-            "enquire" => {
-                let part = bytes(expect, "part_hex");
-                let wanted = wanted_enquiry(expect, part.len());
-                Wanted::Enquiry(bytes(value, "label_hex"), wanted, part)
-            }
-            other => panic!("a case of the entry {other}"),
-        },
+        asked,
+        wanted,
+    }
+}
+
+fn asked_and_wanted(value: &Value, before_sheets: bool) -> (Asked, Answer) {
+    let expect = value.get("expect").expect("what is wanted");
+    let tables = || tables(value, before_sheets);
+    match string(value, "entry").as_str() {
+        "read" => {
+            let wanted = wanted_reading(expect, before_sheets);
+            (Asked::Read(tables()), Answer::Read(wanted))
+        }
+        "page" => {
+            let wanted = wanted_page(expect, before_sheets);
+            let page_bytes = number(value, "page_bytes");
+            (Asked::Page(tables(), page_bytes), Answer::Page(wanted))
+        }
+        "enquire" => {
+            let part = bytes(expect, "part_hex");
+            let wanted = wanted_enquiry(expect, part.len());
+            let label = bytes(value, "label_hex");
+            (Asked::Enquiry(label), Answer::Enquiry(wanted, part))
+        }
+        other => panic!("a case of the entry {other}"),
     }
 }
 
@@ -184,42 +225,85 @@ fn row<const WIDTH: usize>(value: &Value) -> [u32; WIDTH] {
 }
 
 impl Case {
-    /// Fails where the answer is another.
-    fn check(&self) {
+    /// What is answered: by a reader, or where none is named by the one that is tested.
+    fn answer(&self, reader: Option<Reader>) -> Answer {
         let Case {
-            name, note, sheet, ..
+            note,
+            sheet,
+            release,
+            ..
         } = self;
-        let release = self.release;
-        match &self.wanted {
-            Wanted::Read(lent, wanted) => {
+        match &self.asked {
+            Asked::Read(lent) => {
                 let Tables {
                     definition_numbers,
                     span_numbers,
                 } = *lent;
-                let answer = second::read(note, sheet, release, definition_numbers, span_numbers);
-                assert_eq!(answer, *wanted, "{name}");
+                Answer::Read(match reader {
+                    Some(by) => by.read(note, sheet, *release, definition_numbers, span_numbers),
+                    None => second::read(note, sheet, *release, definition_numbers, span_numbers),
+                })
             }
-            Wanted::Page(lent, bytes, wanted) => {
-                let Tables {
-                    definition_numbers,
-                    span_numbers,
-                } = *lent;
-                let answer = second::render(
-                    note,
-                    sheet,
-                    release,
-                    definition_numbers,
-                    span_numbers,
-                    *bytes,
-                );
-                assert_eq!(answer, *wanted, "{name}");
+            Asked::Page(lent, bytes) => Answer::Page(self.page(reader, *lent, *bytes)),
+            Asked::Enquiry(label) => {
+                let answer = match reader {
+                    Some(by) => by.resolve(note, sheet, label),
+                    None => second::resolve(note, sheet, label),
+                };
+                let part = [note, sheet][answer.text][answer.destination.clone()].to_vec();
+                Answer::Enquiry(answer, part)
             }
-            Wanted::Enquiry(label, wanted, part) => {
-                let answer = second::resolve(note, sheet, label);
-                assert_eq!(answer, *wanted, "{name}");
-                let text = [note, sheet][answer.text];
-                assert_eq!(text[answer.destination], **part, "{name}");
+        }
+    }
+
+    /// The same of the page writer.
+    fn page(&self, reader: Option<Reader>, lent: Tables, bytes: usize) -> RenderAnswer {
+        let [note, sheet] = [&self.note, &self.sheet];
+        let Tables {
+            definition_numbers: definitions,
+            span_numbers: spans,
+        } = lent;
+        match reader {
+            Some(by) => by.render(note, sheet, self.release, definitions, spans, bytes),
+            None => second::render(note, sheet, self.release, definitions, spans, bytes),
+        }
+    }
+
+    /// Fails where the answer is another. One that is older than folding is the answer of a reader that folds A to
+    /// Z alone; where folding changes it, the answer is the second reader's.
+    fn check(&self) {
+        let name = &self.name;
+        let answer = self.answer(None);
+        if self.folds {
+            assert_eq!(answer, self.wanted, "{name}");
+            return;
+        }
+        let before = Reader::misreading(Wrong::OnlyAsciiFolded);
+        assert_eq!(self.answer(Some(before)), self.wanted, "{name}");
+        let now = self.answer(Some(Reader::RIGHT));
+        assert_eq!(answer, now, "{name}");
+        match self.changed() {
+            Some(number_and_value) => {
+                assert_eq!(now.number_and_value(), number_and_value, "{name}");
+                assert_ne!(now, self.wanted, "{name}");
             }
+            None => assert_eq!(now, self.wanted, "{name}"),
+        }
+    }
+
+    /// What an older answer is now, where folding changes it.
+    fn changed(&self) -> Option<(u32, usize)> {
+        let changed = CHANGED.iter().find(|(id, ..)| *id == self.id);
+        changed.map(|(_, number, value)| (*number, *value))
+    }
+}
+
+impl Answer {
+    fn number_and_value(&self) -> (u32, usize) {
+        match self {
+            Answer::Read(answer) => (answer.number, answer.value),
+            Answer::Page(answer) => (answer.number, answer.value),
+            Answer::Enquiry(answer, _) => (answer.number, answer.value),
         }
     }
 }
@@ -228,17 +312,19 @@ impl Case {
 fn answers_as_wanted() {
     let cases = cases();
     cases.iter().for_each(Case::check);
-    let count = |of: fn(&Wanted) -> bool| cases.iter().filter(|case| of(&case.wanted)).count();
+    let count = |of: fn(&Asked) -> bool| cases.iter().filter(|case| of(&case.asked)).count();
     // Of request 4: 5 pages. Of request 9: 12 and 28. Of request 1: 19, 43 and 54 enquiries. Of request 8:
-    // 16 and 44, of which 38 are for a release.
+    // 16 and 44, of which 38 are for a release. Of request 3: 13, 51 and 69, and 29 for a release.
     assert_eq!(
-        count(|wanted| matches!(wanted, Wanted::Read(..))),
-        12 + 19 + 16
+        count(|asked| matches!(asked, Asked::Read(..))),
+        12 + 19 + 16 + 13
     );
     assert_eq!(
-        count(|wanted| matches!(wanted, Wanted::Page(..))),
-        5 + 28 + 43 + 44
+        count(|asked| matches!(asked, Asked::Page(..))),
+        5 + 28 + 43 + 44 + 51
     );
-    assert_eq!(count(|wanted| matches!(wanted, Wanted::Enquiry(..))), 54);
-    assert_eq!(cases.iter().filter(|case| case.release).count(), 38);
+    assert_eq!(count(|asked| matches!(asked, Asked::Enquiry(..))), 54 + 69);
+    assert_eq!(cases.iter().filter(|case| case.release).count(), 38 + 29);
+    let changed = cases.iter().filter(|case| case.changed().is_some());
+    assert_eq!(changed.count(), CHANGED.len());
 }

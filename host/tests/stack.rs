@@ -9,10 +9,13 @@ use std::ptr::null_mut;
 
 use host::entries;
 use host::generate::bench_notes;
+use host::generate::long_labels::{self, Letters};
 use host::second::{DEFINITION_ROW_WIDTH, LONGEST_LABEL, LONGEST_NOTE, SPAN_ROW_WIDTH};
 
 /// What `include/notice.h` promises for a call.
-const PROMISED: usize = 48 * 1024;
+const PROMISED: usize = 52 * 1024;
+/// The table of folding: 1,328 entries of two bytes.
+const TABLE: usize = 2 * 1_328;
 /// The memory of a stack, which has room for more than the promise.
 const STACK: usize = 1 << 20;
 const PAGE: usize = 4096;
@@ -89,6 +92,25 @@ fn texts() -> Vec<(Vec<u8>, Vec<u8>, bool)> {
         .collect()
 }
 
+/// What an enquiry for a long label takes, and a comparison of two, in letters of each kind.
+fn taken_by_labels() -> [usize; 2] {
+    let mut most = [0; 2];
+    for Letters { one, other, .. } in long_labels::in_letters() {
+        let note = format!("[{one}]: x").into_bytes();
+        let [one, other] = [one, other].map(String::into_bytes);
+        let calls = [
+            taken(|| {
+                entries::resolve(&note, b"", &other);
+            }),
+            taken(|| {
+                entries::same_label(&one, &other);
+            }),
+        ];
+        most = [0, 1].map(|entry| most[entry].max(calls[entry]));
+    }
+    most
+}
+
 #[test]
 fn a_call_keeps_to_the_promised_stack() {
     let rows = LONGEST_NOTE / 3 + 1;
@@ -105,7 +127,7 @@ fn a_call_keeps_to_the_promised_stack() {
                 entries::render(&note, &sheet, release, &mut defined, &mut spans, &mut page);
             }),
             taken(|| {
-                entries::resolve(&note, &sheet, b"limit 499");
+                entries::resolve(&note, &sheet, "ЛИМИТ 499".as_bytes());
             }),
             taken(|| {
                 entries::same_label(&note, &sheet);
@@ -113,6 +135,9 @@ fn a_call_keeps_to_the_promised_stack() {
         ];
         most = [0, 1, 2, 3].map(|entry| most[entry].max(calls[entry]));
     }
+    let [resolved, compared] = taken_by_labels();
+    most[2] = most[2].max(resolved);
+    most[3] = most[3].max(compared);
     println!(
         "reader {}, page writer {}, enquiry {}, comparison {}",
         most[0], most[1], most[2], most[3]
@@ -121,9 +146,9 @@ fn a_call_keeps_to_the_promised_stack() {
         most.iter().all(|bytes| (1..PROMISED).contains(bytes)),
         "{most:?}"
     );
-    // No form of a label is built: there is no room for the longest.
+    // No form of a label is built: beside the table there is no room for the longest.
     assert!(
-        most[2..].iter().all(|bytes| *bytes < LONGEST_LABEL),
+        most[2..].iter().all(|bytes| *bytes < TABLE + LONGEST_LABEL),
         "{most:?}"
     );
 }

@@ -9,8 +9,7 @@ use Rattle.text.specs.Sequences.{onesFrom, leadingOnes, sequenceLength, charact
 use Rattle.texts.specs.Texts.{texts}
 use Rattle.label.specs.Reading.{inky, fitsAfter, fits, labelEnd}
 use Rattle.target.specs.Reading.{spaceFrom, depthAfter, rawStep, rawRun, judged, destinationOf, closer, titleOf}
-use Rattle.matching.specs.Form.{fold}
-use Rattle.matching.specs.Reading.{spaced, formOf, compared, equals, matches}
+use Rattle.matching.specs.Reading.{lower, pair, codeOf, foldsFrom, spaced, squeeze, compared, equals, matches}
 use Rattle.block.specs.Reading.{blankLine, lineLength, blockRest, blockLength, partLength, blockHere, blocks}
 use Rattle.row.specs.Reading.{matchFrom}
 use Rattle.definition.specs.Reading as definition
@@ -44,7 +43,7 @@ pub record Samples : Type 0 where
 
 pub samples : Samples
 unfolding scan run past leap closingStep closing onesFrom leadingOnes sequenceLength characters inky fitsAfter fits labelEnd spaceFrom depthAfter rawStep rawRun judged destinationOf closer titleOf
-    fold spaced formOf compared equals matches blankLine lineLength blockRest blockLength partLength blockHere blocks matchFrom
+    lower pair codeOf foldsFrom spaced squeeze compared equals matches blankLine lineLength blockRest blockLength partLength blockHere blocks matchFrom
     definition.lineAfter definition.titleAfter definition.endingAfter definition.afterLabel definition.afterIndent definition.definitionAt definition.takingFrom
     definition.definitionsFrom definition.definitionsOf definition.definitionsIn definition.definitions joined differ differsFrom conflictFrom firstConflict
 samples =

@@ -15,8 +15,7 @@ use Rattle.texts.specs.Reading.{checkOf}
 use Rattle.label.specs.Reading.{inky, fitsAfter, fits, labelEnd, unclosed, isLabel}
 use Rattle.target.specs.Reading.{spaceFrom, depthAfter, rawStep, rawRun, judged, destinationOf, closer, titleOf}
 use Rattle.block.specs.Reading.{blankLine, lineLength, blockRest, blockLength, partLength, blockHere, blocks}
-use Rattle.matching.specs.Form.{fold}
-use Rattle.matching.specs.Reading.{spaced, formOf, compared, equals, matches}
+use Rattle.matching.specs.Reading.{lower, pair, codeOf, foldsFrom, spaced, squeeze, compared, equals, matches}
 use Rattle.row.specs.Reading.{matchFrom}
 use Rattle.definition.specs.Reading as definition
 use Rattle.joined.specs.Reading.{joined}
@@ -80,7 +79,7 @@ answered s = record { T = s .T; label = s .label; answer = enquiryOf (s .T) (s .
 pub samples-hold : map answered samples ≡ samples
 unfolding scan run past leap closingStep closing onesFrom leadingOnes sequenceLength characters table rowFor starts characterLength goodLength firstBadPast firstBad text.checkOf checkOf
     inky fitsAfter fits labelEnd unclosed isLabel spaceFrom depthAfter rawStep rawRun judged destinationOf closer titleOf
-    blankLine lineLength blockRest blockLength partLength blockHere blocks fold spaced formOf compared equals matches matchFrom
+    blankLine lineLength blockRest blockLength partLength blockHere blocks lower pair codeOf foldsFrom spaced squeeze compared equals matches matchFrom
     definition.lineAfter definition.titleAfter definition.endingAfter definition.afterLabel definition.afterIndent definition.definitionAt definition.takingFrom
     definition.definitionsFrom definition.definitionsOf definition.definitionsIn definition.definitions joined goodLabel answerIn answerFor enquiryOf
 samples-hold = refl

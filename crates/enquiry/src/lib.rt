@@ -82,7 +82,7 @@ fn find(s: &[u8], text: usize, label: &[u8]) -> Enquiry
             break 'definitions Enquiry::Undefined;
         };
         let Range { start, end } = d.label;
-        if !matching::same_label(&s[start..end], label) {
+        if !alike::same_label(&s[start..end], label) {
             c = after;
             continue 'definitions;
         }

@@ -12,8 +12,7 @@ use Rattle.scan.specs.Reading.{scan as scanBytes, run, closingStep, closing}
 use Rattle.text.specs.Sequences.{onesFrom, leadingOnes, sequenceLength, characters}
 use Rattle.label.specs.Reading.{inky, fitsAfter, fits, labelEnd, unclosed, isLabel}
 use Rattle.target.specs.Reading.{spaceFrom, depthAfter, rawStep, rawRun, judged, destinationOf, closer, titleOf}
-use Rattle.matching.specs.Form.{fold}
-use Rattle.matching.specs.Reading.{spaced, formOf, compared, equals, matches}
+use Rattle.matching.specs.Reading.{lower, pair, codeOf, foldsFrom, spaced, squeeze, compared, equals, matches}
 use Rattle.marking.specs.ReadingSpans.{spans, finish, scan, scanStep, scanFound, scanStart}
 use Rattle.row.specs.declared.Definition.{Definition}
 use Rattle.row.specs.Row.{range, absent}
@@ -90,5 +89,5 @@ hold [] = true
 hold (s ∷ more) = sameRows (rowsOf s) (s .rows) && hold more
 
 pub samples-hold : hold samples ≡ true
-unfolding feeds lineOf scanBytes run closingStep closing onesFrom leadingOnes sequenceLength characters inky fitsAfter fits labelEnd unclosed isLabel spaceFrom depthAfter rawStep rawRun judged destinationOf closer titleOf fold spaced formOf compared equals matches spans finish scan scanStep scanFound scanStart countAfter runStep runDone closingRun pieceFrom closedAt afterDestination inlineOf matchFrom labelAfter textTail tailOf
+unfolding feeds lineOf scanBytes run closingStep closing onesFrom leadingOnes sequenceLength characters inky fitsAfter fits labelEnd unclosed isLabel spaceFrom depthAfter rawStep rawRun judged destinationOf closer titleOf lower pair codeOf foldsFrom spaced squeeze compared equals matches spans finish scan scanStep scanFound scanStart countAfter runStep runDone closingRun pieceFrom closedAt afterDestination inlineOf matchFrom labelAfter textTail tailOf
 samples-hold = refl

@@ -1,5 +1,9 @@
 pub mod Forms
-pub mod Blanks
-pub mod Turn
-pub mod Quick
+pub mod Spelled
+pub mod Characters
+pub mod Folds
 pub mod Equality
+pub mod Starts
+pub mod Twice
+pub mod Before
+pub mod Claims

@@ -1,3 +1,5 @@
 pub mod Form
 pub mod Reading
+pub mod Before
+pub mod Claims
 pub mod Samples

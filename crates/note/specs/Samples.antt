@@ -12,8 +12,7 @@ use Rattle.scan.specs.Reading.{scan as scanBytes, run, past, leap, closingStep,
 use Rattle.text.specs.Sequences.{onesFrom, leadingOnes, sequenceLength, characters}
 use Rattle.label.specs.Reading.{inky, fitsAfter, fits, labelEnd, unclosed, isLabel}
 use Rattle.target.specs.Reading.{spaceFrom, depthAfter, rawStep, rawRun, judged, destinationOf, closer, titleOf}
-use Rattle.matching.specs.Form.{fold}
-use Rattle.matching.specs.Reading.{spaced, formOf, compared, equals, matches}
+use Rattle.matching.specs.Reading.{lower, pair, codeOf, foldsFrom, spaced, squeeze, compared, equals, matches}
 use Rattle.marking.specs.ReadingSpans.{spans, finish, scan, scanStep, scanFound, scanStart, over, overs, overWithin}
 use Rattle.block.specs.Reading.{blankLine, lineLength, blockRest, blockLength, partLength, blockHere, blocks}
 use Rattle.block.specs.Block.{Placed}
@@ -142,7 +141,7 @@ pub record Edges : Type 0 where
 
 pub holds : Holds
 unfolding feeds lineOf scanBytes run past leap closingStep closing onesFrom leadingOnes sequenceLength characters inky fitsAfter fits labelEnd unclosed isLabel
-    spaceFrom depthAfter rawStep rawRun judged destinationOf closer titleOf fold spaced formOf compared equals matches
+    spaceFrom depthAfter rawStep rawRun judged destinationOf closer titleOf lower pair codeOf foldsFrom spaced squeeze compared equals matches
     spans finish scan scanStep scanFound scanStart over overs overWithin blankLine lineLength blockRest blockLength partLength blockHere blocks matchFrom
     definition.lineAfter definition.titleAfter definition.endingAfter definition.afterLabel definition.afterIndent definition.definitionAt definition.takingFrom definition.definitionsFrom
     definition.paragraphEnd definition.paragraphFrom definition.definitionsOf definition.paragraphOf definition.definitionsIn definition.paragraphsIn definitions paragraphs

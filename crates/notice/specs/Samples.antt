@@ -16,8 +16,7 @@ use Rattle.texts.specs.Reading as both
 use Rattle.text.specs.Reading.{rowFor, starts, characterLength, goodLength, firstBadPast, firstBad, checkOf}
 use Rattle.label.specs.Reading.{inky, fitsAfter, fits, labelEnd, unclosed, isLabel}
 use Rattle.target.specs.Reading.{spaceFrom, depthAfter, rawStep, rawRun, judged, destinationOf, closer, titleOf}
-use Rattle.matching.specs.Form.{fold}
-use Rattle.matching.specs.Reading.{spaced, formOf, compared, equals, matches}
+use Rattle.matching.specs.Reading.{lower, pair, codeOf, foldsFrom, spaced, squeeze, compared, equals, matches}
 use Rattle.marking.specs.ReadingSpans.{spans, finish, scan, scanStep, scanFound, scanStart, over, overs, overWithin}
 use Rattle.block.specs.Reading.{blankLine, lineLength, blockRest, blockLength, partLength, blockHere, blocks}
 use Rattle.rows.specs.Rows.{rows, filled}
@@ -174,7 +173,7 @@ pub record Computed : Type 0 where
 
 pub samples-hold : Computed
 unfolding feeds lineOf scanBytes run past leap closingStep closing table onesFrom leadingOnes sequenceLength characters rowFor starts characterLength goodLength firstBadPast firstBad checkOf both.checkOf joined
-    inky fitsAfter fits labelEnd unclosed isLabel spaceFrom depthAfter rawStep rawRun judged destinationOf closer titleOf fold spaced formOf compared equals matches
+    inky fitsAfter fits labelEnd unclosed isLabel spaceFrom depthAfter rawStep rawRun judged destinationOf closer titleOf lower pair codeOf foldsFrom spaced squeeze compared equals matches
     spans finish scan scanStep scanFound scanStart over overs overWithin blankLine lineLength blockRest blockLength partLength blockHere blocks rows filled matchFrom
     reading.lineAfter reading.titleAfter reading.endingAfter reading.afterLabel reading.afterIndent reading.definitionAt reading.takingFrom reading.definitionsFrom
     reading.paragraphEnd reading.paragraphFrom reading.definitionsOf reading.paragraphOf reading.definitionsIn reading.paragraphsIn definitions paragraphs

@@ -91,7 +91,7 @@ pub extern "C" fn notice_resolve<'a>(
 pub extern "C" fn notice_same_label(a: &[u8], b: &[u8]) -> u32
     ensures { λ r. ⌜ SameLabelPromise (now (a .entry)) (now (b .entry)) r (now (a .exit)) (now (b .exit)) ⌝ }
 {
-    if matching::same_label(a, b) {
+    if alike::same_label(a, b) {
         return 1;
     }
     0

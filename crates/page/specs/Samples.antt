@@ -9,8 +9,7 @@ use Rattle.text.specs.Sequences.{onesFrom, leadingOnes, sequenceLength, charact
 use Rattle.texts.specs.Texts.{Texts, texts}
 use Rattle.label.specs.Reading.{inky, fitsAfter, fits, labelEnd, unclosed, isLabel}
 use Rattle.target.specs.Reading.{spaceFrom, depthAfter, rawStep, rawRun, judged, destinationOf, closer, titleOf}
-use Rattle.matching.specs.Form.{fold}
-use Rattle.matching.specs.Reading.{spaced, formOf, compared, equals, matches}
+use Rattle.matching.specs.Reading.{lower, pair, codeOf, foldsFrom, spaced, squeeze, compared, equals, matches}
 use Rattle.marking.specs.ReadingSpans.{spans, finish, scan, scanStep, scanFound, scanStart}
 use Rattle.block.specs.Reading.{blankLine, lineLength, blockRest, blockLength, partLength, blockHere, blocks}
 use Rattle.row.specs.Reading.{matchFrom}
@@ -91,7 +90,7 @@ readOne x = record { texts = x .texts; page = pageOf (x .texts) }
 
 pub samples-hold : map readOne samples ≡ samples
 unfolding scanBytes run past leap closingStep closing onesFrom leadingOnes sequenceLength characters inky fitsAfter fits labelEnd unclosed isLabel
-    spaceFrom depthAfter rawStep rawRun judged destinationOf closer titleOf fold spaced formOf compared equals matches
+    spaceFrom depthAfter rawStep rawRun judged destinationOf closer titleOf lower pair codeOf foldsFrom spaced squeeze compared equals matches
     spans finish scan scanStep scanFound scanStart blankLine lineLength blockRest blockLength partLength blockHere blocks matchFrom
     definition.lineAfter definition.titleAfter definition.endingAfter definition.afterLabel definition.afterIndent definition.definitionAt definition.takingFrom definition.definitionsFrom
     definition.paragraphEnd definition.paragraphFrom definition.definitionsOf definition.paragraphOf definition.definitionsIn definition.paragraphsIn definition.definitions definition.paragraphs

@@ -12,8 +12,7 @@ use Rattle.text.specs.Sequences.{onesFrom, leadingOnes, sequenceLength, charact
 use Rattle.text.specs.Reading.{rowFor, starts, characterLength, goodLength, firstBadPast, firstBad, checkOf}
 use Rattle.label.specs.Reading.{inky, fitsAfter, fits, labelEnd, unclosed, isLabel}
 use Rattle.target.specs.Reading.{spaceFrom, depthAfter, rawStep, rawRun, judged, destinationOf, closer, titleOf}
-use Rattle.matching.specs.Form.{fold}
-use Rattle.matching.specs.Reading.{spaced, formOf, compared, equals, matches}
+use Rattle.matching.specs.Reading.{lower, pair, codeOf, foldsFrom, spaced, squeeze, compared, equals, matches}
 use Rattle.marking.specs.ReadingSpans.{spans, overWithin, overs, over, finish, scan, scanStep, scanFound, scanStart}
 use Rattle.block.specs.Reading.{blankLine, lineLength, blockRest, blockLength, partLength, blockHere, blocks}
 use Rattle.rows.specs.Rows
@@ -135,7 +134,7 @@ rendered x =
 
 pub samples-hold : map rendered samples ≡ samples
 unfolding feeds lineOf scanBytes run past leap closingStep closing onesFrom leadingOnes sequenceLength characters table rowFor starts characterLength goodLength firstBadPast firstBad checkOf both.checkOf joined
-    inky fitsAfter fits labelEnd unclosed isLabel spaceFrom depthAfter rawStep rawRun judged destinationOf closer titleOf fold spaced formOf compared equals matches
+    inky fitsAfter fits labelEnd unclosed isLabel spaceFrom depthAfter rawStep rawRun judged destinationOf closer titleOf lower pair codeOf foldsFrom spaced squeeze compared equals matches
     spans overWithin overs over finish scan scanStep scanFound scanStart blankLine lineLength blockRest blockLength partLength blockHere blocks Rows.rows Rows.filled matchFrom
     definition.lineAfter definition.titleAfter definition.endingAfter definition.afterLabel definition.afterIndent definition.definitionAt definition.takingFrom definition.definitionsFrom
     definition.paragraphEnd definition.paragraphFrom definition.definitionsOf definition.paragraphOf definition.definitionsIn definition.paragraphsIn definition.definitions definition.paragraphs

@@ -13,7 +13,7 @@ use Rattle.texts.specs.Texts.{Texts, textOf}
 use Rattle.row.specs.declared.Range.{Range}
 use Rattle.row.specs.Row.{width}
 use Rattle.row.specs.First.{bytesOf, labelsOf}
-use Rattle.row.specs.Reading.{rangeAt, listedFrom, labelAt, matchFrom, rowOf, Within, Fit}
+use Rattle.row.specs.Reading.{rangeAt, listedFrom, labelAt, matchFrom, rowFrom, rowOf, Within, Fit}
 
 pub match-hit : (k : ℕ) (l : List ℕ) (ls : List (List ℕ)) (label : List ℕ) → matches l label ≡ true → matchFrom k (l ∷ ls) label ≡ At k
 unfolding matchFrom
@@ -43,31 +43,57 @@ module _ (T : Texts) (k : ℕ) (r : Range) where
   of-sheet n = ap (λ (s : List ℕ). bytesOf s r) (other-text T k n)
 
 module _ (T : Texts) (t label : List ℕ) where
-  -- what the lookup finds in n rows from row k on
-  abbrev pub rowFrom : ℕ → ℕ → Found
-  rowFrom k n = matchFrom k (labelsOf T (listedFrom t k n)) label
+  less : (n k : ℕ) → k < n → n - k ≡ suc (n - (k + 1))
+  less n k h = omega arith
 
-  -- the lookup in n rows stands at row k, which starts at place `at` of the table, and what is left gives r
+  -- the lookup in n rows stands at row k, where what is left gives r
+  module _ {n k : ℕ} {r : Found} (inv : rowFrom T t label k n ≡ r) where
+    module _ (h : k < n) where
+      module _ {own : List ℕ} (p : own ≡ labelAt T t (k * width)) where
+        pub row-hit : matches own label ≡ true → At k ≡ r
+        unfolding listedFrom
+        row-hit e = sym (rw (less n k h) (match-hit k _ _ label (rw p at e))) ∙ inv
+
+        pub row-miss : matches own label ≡ false → rowFrom T t label (k + 1) n ≡ r
+        unfolding listedFrom
+        row-miss e = sym (rw (less n k h) (match-miss k _ _ label (rw p at e))) ∙ inv
+
+      pub row-within : Fit T t n → Within (textOf T (getD t (k * width) 0)) (rangeAt t (k * width + 1))
+      row-within f = f .labels k h
+
+    pub row-none : n ≤ k → Nothing ≡ r
+    unfolding listedFrom matchFrom
+    row-none h = let z : n - k ≡ 0 = omega arith in rw z at inv
+
+  -- the same where it goes by the place `at` of the table at which row k starts
   pub record Stands (n at : ℕ) (r : Found) : Type 0 where
     pub k : ℕ
     pub start : at ≡ k * width
     pub few : k ≤ n
-    pub rest : rowFrom k (n - k) ≡ r
+    pub rest : rowFrom T t label k n ≡ r
+
+  pub from-first : (n : ℕ) → rowFrom T t label 0 n ≡ rowOf T t label n
+  unfolding rowOf
+  from-first n = rw sub-zero refl
 
   pub begins : (n : ℕ) → Stands n 0 (rowOf T t label n)
   unfolding rowOf
   begins n = record { k = 0; start = refl; few = omega arith; rest = rw sub-zero refl }
 
-  less : (n k : ℕ) → k < n → n - k ≡ suc (n - (k + 1))
-  less n k h = omega arith
-
   module _ {n at : ℕ} {r : Found} (inv : Stands n at r) where
     row-here : at < n * width → inv .k < n
     row-here h = omega (arith, inv .start)
 
+    number : at / width ≡ inv .k
+    number = omega (arith, inv .start)
+
+    -- the rows from this one on
+    pub on-from : rowFrom T t label (at / width) n ≡ r
+    on-from = rw number (inv .rest)
+
     module _ (h : at < n * width) where
       pub label-within : Fit T t n → Within (textOf T (getD t at 0)) (rangeAt t (at + 1))
-      label-within f = rw (inv .start) (f .labels (inv .k) (row-here h))
+      label-within f = rw (inv .start) (row-within (inv .rest) (row-here h) f)
 
       -- own is what stands there as its label
       module _ {own : List ℕ} (p : own ≡ labelAt T t at) where
@@ -75,20 +101,15 @@ module _ (T : Texts) (t label : List ℕ) where
         label-here = p ∙ ap (labelAt T t) (inv .start)
 
         pub hit : matches own label ≡ true → At (at / width) ≡ r
-        unfolding listedFrom
-        hit e =
-            let number : at / width ≡ inv .k = omega (arith, inv .start) in
-            rw number (sym (rw (less n (inv .k) (row-here h)) (match-hit (inv .k) _ _ label (rw label-here at e))) ∙ inv .rest)
+        hit e = rw number (row-hit (inv .rest) (row-here h) label-here e)
 
         pub miss : matches own label ≡ false → Stands n (at + width) r
-        unfolding listedFrom
         miss e = record {
           k = inv .k + 1;
           start = omega (arith, inv .start);
           few = omega (arith, row-here h);
-          rest = sym (rw (less n (inv .k) (row-here h)) (match-miss (inv .k) _ _ label (rw label-here at e))) ∙ inv .rest;
+          rest = row-miss (inv .rest) (row-here h) label-here e;
         }
 
     pub none : n * width ≤ at → Nothing ≡ r
-    unfolding listedFrom matchFrom
-    none h = let z : n - inv .k ≡ 0 = omega (arith, inv .start, inv .few) in rw z at (inv .rest)
+    none h = row-none (inv .rest) (omega (arith, inv .start, inv .few))

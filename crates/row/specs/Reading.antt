@@ -1,5 +1,5 @@
 -- Reading definitions back from a table, and looking a label up.
-use Prim.Native.Nat.{ℕ, zero, suc, _+_, _*_, _≤_, _<_}
+use Prim.Native.Nat.{ℕ, zero, suc, _+_, _-_, _*_, _≤_, _<_}
 use mathlib.Core.List.{List, [], _∷_}
 use mathlib.Core.Bool.{true, false}
 use lib.ListN.{length, getD}
@@ -47,6 +47,10 @@ matchFrom k (l ∷ ls) label = elim (matches l label) [ true ↦ At k | false �
 
 abbrev pub firstMatch : List (List ℕ) → List ℕ → Found
 firstMatch = matchFrom 0
+
+-- the first row from row k on, of the table's first `count` rows, whose label matches
+abbrev pub rowFrom : Texts → List ℕ → List ℕ → ℕ → ℕ → Found
+rowFrom T t label k count = matchFrom k (labelsOf T (listedFrom t k (count - k))) label
 
 -- the first of the table's `count` rows whose label matches
 unfoldable pub rowOf : Texts → List ℕ → List ℕ → ℕ → Found

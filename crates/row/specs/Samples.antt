@@ -7,8 +7,7 @@ use lib.ListN.{replicate}
 use Rattle.scan.specs.Ascii.{ascii}
 use Rattle.scan.specs.declared.Found.{Found}
 use Rattle.scan.specs.declared.Found.the-variants.{At, Nothing}
-use Rattle.matching.specs.Form.{fold}
-use Rattle.matching.specs.Reading.{spaced, formOf, compared, equals, matches}
+use Rattle.matching.specs.Reading.{lower, pair, codeOf, foldsFrom, spaced, squeeze, compared, equals, matches}
 use Rattle.line.specs.Line.{feeds, lineOf}
 use Rattle.rows.specs.Rows
 use Rattle.texts.specs.Texts.{Texts, texts}
@@ -80,7 +79,7 @@ pub record Lookups : Type 0 where
   pub no-escape : found ("foo\\!" ∷ []) "foo!" ≡ Nothing
 
 pub lookups : Lookups
-unfolding fold spaced formOf compared equals matches matchFrom
+unfolding lower pair codeOf foldsFrom spaced squeeze compared equals matches matchFrom
 lookups = record { first = refl; blanks = refl; unequal = refl; no-rows = refl; escape = refl; no-escape = refl }
 
 -- of the two equal labels, one of the note and one of the sheet, the first is found, in the table that the two rows fill; and each in its own text
@@ -92,5 +91,5 @@ pub record TableLookups : Type 0 where
   pub own-text : looked (past-end ∷ stale ∷ []) 16 ≡ At 1
 
 pub table-lookups : TableLookups
-unfolding feeds lineOf Rows.filled Rows.rows listedFrom rowOf fold spaced formOf compared equals matches matchFrom
+unfolding feeds lineOf Rows.filled Rows.rows listedFrom rowOf lower pair codeOf foldsFrom spaced squeeze compared equals matches matchFrom
 table-lookups = record { note-first = refl; own-text = refl }

@@ -5,7 +5,8 @@ ghost use lib.ListN.{length, getD};
 ghost use Rattle.texts.specs.Texts.{texts, textOf};
 ghost use Rattle.row.specs.First.{bytesOf};
 ghost use Rattle.row.specs.Row.{range, absent, definition, SmallPart, Small, wholeRows, storedRange, storedOn};
-ghost use Rattle.row.specs.Reading.{rangeAt, textAt, definitionAt, labelAt, Within, Fit, rowOf};
+ghost use Rattle.casefold.specs.Table.{table as folds};
+ghost use Rattle.row.specs.Reading.{rangeAt, textAt, definitionAt, labelAt, Within, Fit, rowFrom, rowOf};
 use scan::Found;
 
 // A part of a text: where it starts, and where it ends. An absent part is 0 and 0.
@@ -141,8 +142,50 @@ fn label_at<'a>(note: &'a [u8], sheet: &'a [u8], table: &[u32], at: usize) -> &'
     part_of(note, sheet, table[at] as usize, r)
 }
 
-// The first of `n` rows whose label equals `label`. Rows are passed by where they start, so that no row is numbered but the one found.
-pub fn lookup<'a>(note: &'a [u8], sheet: &'a [u8], table: &[u32], n: usize, label: &[u8]) -> Found
+// The first row from row `from` on, of `n`, whose label equals `label`; with the table of folding at hand.
+fn lookup_folded<'a>(
+    fold: &[u16; 1328],
+    note: &'a [u8],
+    sheet: &'a [u8],
+    table: &[u32],
+    n: usize,
+    from: usize,
+    label: &[u8],
+) -> Found
+    requires { ⌜ now fold ≡ folds ⌝ }
+    requires { ⌜ Fit (texts (now note) (now sheet)) (now table) n ⌝ }
+    ensures { λ r. ⌜ r ≡ rowFrom (texts (now (note .entry)) (now (sheet .entry))) (now (table .entry)) (now (label .entry)) from n ⌝ }
+{
+    let mut k = from;
+    while k < n {
+        let own = label_at(note, sheet, table, k * Definition::WIDTH);
+        if alike::same_folded(fold, own, label) {
+            return Found::At(k);
+        }
+        k += 1;
+    }
+    Found::Nothing
+}
+
+// The same; the table of folding is built here, once for all rows.
+fn lookup_by_table<'a>(
+    note: &'a [u8],
+    sheet: &'a [u8],
+    table: &[u32],
+    n: usize,
+    from: usize,
+    label: &[u8],
+) -> Found
+    requires { ⌜ Fit (texts (now note) (now sheet)) (now table) n ⌝ }
+    ensures { λ r. ⌜ r ≡ rowFrom (texts (now (note .entry)) (now (sheet .entry))) (now (table .entry)) (now (label .entry)) from n ⌝ }
+{
+    let fold = folding::fold_table();
+    lookup_folded(&fold, note, sheet, table, n, from, label)
+}
+
+// The first of `n` rows whose label equals `label`. Rows are passed by where they start, so that no row is numbered but the one found,
+// and without the table of folding, up to the first row that asks for it.
+fn lookup_bytes<'a>(note: &'a [u8], sheet: &'a [u8], table: &[u32], n: usize, label: &[u8]) -> Found
     requires { ⌜ Fit (texts (now note) (now sheet)) (now table) n ⌝ }
     ensures { λ r. ⌜ r ≡ rowOf (texts (now (note .entry)) (now (sheet .entry))) (now (table .entry)) (now (label .entry)) n ⌝ }
 {
@@ -154,29 +197,46 @@ pub fn lookup<'a>(note: &'a [u8], sheet: &'a [u8], table: &[u32], n: usize, labe
             break Found::Nothing;
         }
         let own = label_at(note, sheet, table, at);
-        if matching::are_unlike(scan::peek(own, 0), first) {
+        if alike::are_unlike(scan::peek(own, 0), first) {
             at += Definition::WIDTH;
             continue 'rows;
         }
-        let mut i = matching::same_start(own, label);
+        let mut i = alike::same_count(own, label, 0, 0, alike::ASCII);
         let mut j = i;
         loop {
-            if matching::same_at(own, label, i, j) {
-                i += 1;
-                j += 1;
-                continue;
-            }
-            let p = matching::past_blanks(own, i);
-            let q = matching::past_blanks(label, j);
-            if !matching::agree_at(own, label, i, j, p, q) {
+            let p = alike::past_blanks(own, i);
+            let q = alike::past_blanks(label, j);
+            let x = scan::peek(own, p);
+            let y = scan::peek(label, q);
+            if alike::are_apart(own, label, i, j, p, q, x, y) {
                 at += Definition::WIDTH;
                 continue 'rows;
             }
             if own.len() <= p {
                 break 'rows Found::At(at / Definition::WIDTH);
             }
-            i = p + 1;
-            j = q + 1;
+            let same = alike::shared(own, label, p, q, x, y);
+            if same == 0 {
+                break 'rows lookup_by_table(note, sheet, table, n, at / Definition::WIDTH, label);
+            }
+            i = p + same;
+            j = q + same;
         }
     }
+}
+
+// The same. Where the label begins beyond ASCII and the first row's otherwise, the table is asked from the start.
+pub fn lookup<'a>(note: &'a [u8], sheet: &'a [u8], table: &[u32], n: usize, label: &[u8]) -> Found
+    requires { ⌜ Fit (texts (now note) (now sheet)) (now table) n ⌝ }
+    ensures { λ r. ⌜ r ≡ rowOf (texts (now (note .entry)) (now (sheet .entry))) (now (table .entry)) (now (label .entry)) n ⌝ }
+{
+    if n == 0 {
+        return Found::Nothing;
+    }
+    let own = label_at(note, sheet, table, 0);
+    let first = scan::peek(label, 0);
+    if (alike::ASCII < first) & (scan::peek(own, 0) != first) {
+        return lookup_by_table(note, sheet, table, n, 0, label);
+    }
+    lookup_bytes(note, sheet, table, n, label)
 }

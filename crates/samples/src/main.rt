@@ -78,7 +78,7 @@ fn show_enquiry<'a>(note: &'a [u8], sheet: &'a [u8], label: &[u8]) {
 
 // Compares the note's bytes with the label's, as two labels, and prints whether they are equal.
 fn show_comparison(note: &[u8], label: &[u8]) {
-    report::comparison(matching::same_label(note, label));
+    report::comparison(alike::same_label(note, label));
 }
 
 // The container does not go on as it should.

@@ -1,5 +1,6 @@
 pub mod Test
 pub mod Member
+pub mod Lists
 pub mod Below
 pub mod Scan
 pub mod Every

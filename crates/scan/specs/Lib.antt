@@ -1,5 +1,6 @@
 pub mod Byte
 pub mod Member
+pub mod Lists
 pub mod Every
 pub mod Closing
 pub mod Reading

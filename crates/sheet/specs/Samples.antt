@@ -8,8 +8,7 @@ use Rattle.line.specs.Line.{feeds, lineOf}
 use Rattle.text.specs.Sequences.{onesFrom, leadingOnes, sequenceLength, characters}
 use Rattle.label.specs.Reading.{inky, fitsAfter, fits, labelEnd, unclosed, isLabel}
 use Rattle.target.specs.Reading.{spaceFrom, depthAfter, rawStep, rawRun, judged, destinationOf, closer, titleOf}
-use Rattle.matching.specs.Form.{fold}
-use Rattle.matching.specs.Reading.{spaced, formOf, compared, equals, matches}
+use Rattle.matching.specs.Reading.{lower, pair, codeOf, foldsFrom, spaced, squeeze, compared, equals, matches}
 use Rattle.marking.specs.ReadingSpans.{spans, finish, scan, scanStep, scanFound, scanStart}
 use Rattle.block.specs.Reading.{blankLine, lineLength, blockRest, blockLength, partLength, blockHere, blocks}
 use Rattle.row.specs.Reading.{matchFrom}
@@ -29,7 +28,7 @@ pub record WholeExample : Type 0 where
 
 pub whole-example : WholeExample
 unfolding feeds lineOf scanBytes run past leap closingStep closing onesFrom leadingOnes sequenceLength characters inky fitsAfter fits labelEnd unclosed isLabel
-    spaceFrom depthAfter rawStep rawRun judged destinationOf closer titleOf fold spaced formOf compared equals matches
+    spaceFrom depthAfter rawStep rawRun judged destinationOf closer titleOf lower pair codeOf foldsFrom spaced squeeze compared equals matches
     spans finish scan scanStep scanFound scanStart blankLine lineLength blockRest blockLength partLength blockHere blocks matchFrom
     definition.lineAfter definition.titleAfter definition.endingAfter definition.afterLabel definition.afterIndent definition.definitionAt definition.takingFrom definition.definitionsFrom
     definition.paragraphEnd definition.paragraphFrom definition.definitionsOf definition.paragraphOf definition.definitionsIn definition.paragraphsIn definitions paragraphs

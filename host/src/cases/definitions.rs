@@ -78,7 +78,7 @@ const LABELS: &[(&str, &str)] = &[
         "labels equal but for case and space",
         "[ A\tb\n c ]: /u\n\n[a b C] [A  B  c][] [t][a\nb\nc]",
     ),
-    ("labels not equal for letters past Z", "[É]: /u\n\n[é] [É]"),
+    ("labels equal for letters past Z", "[É]: /u\n\n[é] [É]"),
     (
         "every letter",
         "[ABCDEFGHIJKLMNOPQRSTUVWXYZ]: /u\n\n[abcdefghijklmnopqrstuvwxyz]",

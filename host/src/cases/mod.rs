@@ -8,6 +8,9 @@ mod characters;
 mod definitions;
 mod enquiries;
 mod expected;
+pub mod folded_bytes;
+pub mod folded_texts;
+pub mod folding;
 pub mod labels;
 mod lending;
 mod limits;
@@ -162,6 +165,9 @@ pub fn all() -> Vec<Case> {
         release_refusals::cases(),
         enquiries::cases(),
         labels::cases(),
+        folding::cases(),
+        folded_texts::cases(),
+        folded_bytes::cases(),
         chance::cases(),
     ]
     .into_iter()

@@ -1,4 +1,4 @@
-//! The whole example, P1 to P13, and the sources' examples in scope.
+//! The whole example, P1 to P13, and the sources' examples that are met.
 
 use super::Case;
 use crate::sources::examples;
@@ -32,7 +32,7 @@ pub fn samples() -> impl Iterator<Item = Case> {
 pub fn cases() -> Vec<Case> {
     let mut cases = vec![Case::of("the whole example", WHOLE_EXAMPLE)];
     cases.extend(samples());
-    for example in examples().iter().filter(|example| example.is_base()) {
+    for example in examples().iter().filter(|example| example.is_met()) {
         cases.push(Case::of(&example.name, &example.note));
     }
     cases

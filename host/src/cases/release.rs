@@ -148,7 +148,7 @@ const TEXTS: &[(&str, &str, &str)] = &[
     ),
     (
         "labels that are not equal",
-        "[p!]: /1\n[p\\!]: /2\n[É]: /3\n[é]: /4\n[pp]: /5\n[p p]: /6\n\n[p!] [é]",
+        "[p!]: /1\n[p\\!]: /2\n[É]: /3\n[e]: /4\n[pp]: /5\n[p p]: /6\n\n[p!] [é]",
         "[p]: /7",
     ),
     (

@@ -31,10 +31,27 @@ const DRUGS: &[&str] = &[
     "heparin", "insulin", "morphine", "propofol", "fentanyl", "oxytocin", "dopamine", "ketamine",
 ];
 const NOTICE_DEFINITIONS: usize = 60;
+/// The word of the labels of `references`.
+const LIMIT: &str = "limit";
+/// Notes of references with the words of the labels that are defined and that are used: they differ in letters
+/// alone.
+const IN_LETTERS: [(&str, &str, &str); 4] = [
+    ("references_latin", LIMIT, LIMIT),
+    ("references_case", LIMIT, "LIMIT"),
+    ("references_cyrillic", "лимит", "лимит"),
+    ("references_cyrillic_case", "лимит", "ЛИМИТ"),
+];
 
 /// All notes of the benchmark, the same in every run.
 pub fn all() -> Vec<BenchNote> {
     of_size(LONGEST_NOTE)
+}
+
+/// Those of references that differ in letters alone.
+pub fn in_letters_alone() -> Vec<BenchNote> {
+    let mut notes = all();
+    notes.retain(|note| IN_LETTERS.iter().any(|(name, ..)| *name == note.name));
+    notes
 }
 
 /// The same notes for a limit of `most` bytes in place of the longest note: all of them get shorter alike.
@@ -48,13 +65,30 @@ pub fn of_size(most: usize) -> Vec<BenchNote> {
     notes.push(BenchNote::of(
         "references_sheet",
         references(chance, limits, String::new(), most),
-        definitions_of_limits(limits),
+        definitions_of(LIMIT, limits),
     ));
     notes.push(BenchNote {
         release: true,
         ..BenchNote::of("definitions_release", definitions(most), String::new())
     });
+    notes.extend(in_letters(chance, most));
     notes
+}
+
+/// The notes of references in letters of each kind: each to the same definitions, as many as fit in the widest.
+fn in_letters(chance: &mut Chance, most: usize) -> [BenchNote; IN_LETTERS.len()] {
+    let count = share(500, most);
+    let start = |word: &str| definitions_of(word, count) + "\n";
+    let words = IN_LETTERS.map(|(_, defined, _)| defined);
+    let widest = words
+        .into_iter()
+        .max_by_key(|word| word.len())
+        .unwrap_or_default();
+    let numbers = numbers(chance, widest, count, most - start(widest).len());
+    IN_LETTERS.map(|(name, defined, used)| {
+        let note = with_references(start(defined), used, &numbers);
+        BenchNote::of(name, note, String::new())
+    })
 }
 
 /// A count for the longest note, as it is for a limit of `most` bytes.
@@ -66,7 +100,7 @@ fn share(count: usize, most: usize) -> usize {
 fn alone(chance: &mut Chance, most: usize) -> Vec<(&'static str, String)> {
     let share = |count: usize| share(count, most);
     let repeated = |piece: &str| piece.repeat(most / piece.len());
-    let own = definitions_of_limits(share(500)) + "\n";
+    let own = definitions_of(LIMIT, share(500)) + "\n";
     vec![
         ("references", references(chance, share(500), own, most)),
         ("backticks", backticks(most)),
@@ -94,25 +128,47 @@ fn alone(chance: &mut Chance, most: usize) -> Vec<(&'static str, String)> {
     ]
 }
 
-/// So many definitions.
-fn definitions_of_limits(count: usize) -> String {
-    let definition = |number| format!("[limit {number}]: /q/{number}\n");
+/// So many definitions, whose labels are the word and a number.
+fn definitions_of(word: &str, count: usize) -> String {
+    let definition = |number| format!("[{word} {number}]: /q/{number}\n");
     (0..count).map(definition).collect()
 }
 
+fn reference(word: &str, number: usize) -> String {
+    format!("[{word} {number}]")
+}
+
 /// References to so many definitions, after what the note starts with, up to the limit.
-fn references(chance: &mut Chance, definitions: usize, mut note: String, most: usize) -> String {
-    let mut line = 0;
+fn references(chance: &mut Chance, definitions: usize, note: String, most: usize) -> String {
+    let numbers = numbers(chance, LIMIT, definitions, most - note.len());
+    with_references(note, LIMIT, &numbers)
+}
+
+/// Numbers of definitions by chance, as many as the references to them and what stands between have room for.
+fn numbers(chance: &mut Chance, word: &str, definitions: usize, room: usize) -> Vec<usize> {
+    let mut numbers = Vec::new();
+    let mut length = 0;
     loop {
-        let reference = format!("[limit {}]", chance.below(definitions));
-        if note.len() + 1 + reference.len() > most {
-            return note;
+        let number = chance.below(definitions);
+        length += reference(word, number).len() + 1;
+        if length > room {
+            return numbers;
         }
+        numbers.push(number);
+    }
+}
+
+/// References to these definitions in lines, after what the note starts with.
+fn with_references(mut note: String, word: &str, numbers: &[usize]) -> String {
+    let mut line = 0;
+    for number in numbers {
+        let reference = reference(word, *number);
         note += &reference;
-        line += reference.len() + 1;
+        line += reference.chars().count() + 1;
         note += if line > 70 { "\n" } else { " " };
         line %= 71;
     }
+    note
 }
 
 /// Backtick runs of every length, so that none has another of its length after it.

@@ -2,10 +2,32 @@
 //! brackets, blank lines; now and then with a byte spoilt.
 
 use super::chance::Chance;
+use super::spellings::respelled;
 use crate::second::MOST_BRACKETS_OPEN;
 
 const LABELS: &[&str] = &[
-    "a", "b", "foo", "foo bar", "ref\\[", "\\]", "é", "a\\!", "x`y", "limit 1", "a b c", "Zz",
+    "a",
+    "b",
+    "foo",
+    "foo bar",
+    "ref\\[",
+    "\\]",
+    "é",
+    "a\\!",
+    "x`y",
+    "limit 1",
+    "a b c",
+    "Zz",
+    "ß",
+    "ss",
+    "жгут",
+    "Доза µ",
+    "σας",
+    "\u{130}",
+    "\u{390}",
+    "k",
+    "\u{212a}",
+    "\u{1e9e}",
 ];
 const DESTINATIONS: &[&str] = &[
     "/u",
@@ -98,7 +120,7 @@ fn definitions(chance: &mut Chance) -> String {
     lines
 }
 
-/// A label of the list, in other letter case and space now and then.
+/// A label of the list, in another spelling and space now and then.
 pub fn label(chance: &mut Chance) -> String {
     let label = chance.one_of(LABELS);
     if chance.once_in(3) {
@@ -108,20 +130,12 @@ pub fn label(chance: &mut Chance) -> String {
     }
 }
 
-/// The text with some letters in the other case and with other space.
+/// The text in another spelling that folds to the same, and with other space.
 pub fn varied(chance: &mut Chance, text: &str) -> String {
     let mut other = String::new();
-    for character in text.chars() {
+    for character in respelled(chance, text).chars() {
         match character {
             ' ' | '\t' | '\n' => other += ["  ", "\t", "\n", " \n "][chance.below(4)],
-            lower if lower.is_ascii_lowercase() && chance.once_in(2) => {
-                other.push(lower.to_ascii_uppercase());
-            }
-            upper if upper.is_ascii_uppercase() && chance.once_in(2) => {
-                other.push(upper.to_ascii_lowercase());
-            }
-            // Letters past Z are not folded.
-            'é' if chance.once_in(2) => other.push('É'),
             same => other.push(same),
         }
     }

@@ -1,5 +1,5 @@
 //! Labels of the longest size, each beside one that is equal to it and one that differs in a single
-//! character: what comparing them takes is measured.
+//! character, and equal ones in letters of each kind: what comparing them takes is measured.
 
 use crate::second::LONGEST_LABEL;
 
@@ -50,11 +50,42 @@ pub fn all() -> Vec<LongLabels> {
         both("three bytes", "\u{20ac}", "\u{20ac}", '\u{20ad}'),
         both("four bytes", "\u{1f600}", "\u{1f600}", '\u{1f601}'),
         both("case", "RATE", "rate", 'x'),
+        both("Cyrillic", "темп", "темп", 'ш'),
+        both("Cyrillic case", "ТЕМП", "темп", 'ш'),
+        both("ß and ss", "ßss", "ssß", 'x'),
         both("words", "max rate ", "Max\nRate\t", 'x'),
         blanks("7 leading blanks", 7),
         blanks("40 leading blanks", 40),
         blanks("100 leading blanks", 100),
         LongLabels::of("9 blanks, led and trailing", led(9, " "), trailing, 0, 'x'),
+    ]
+}
+
+/// Two equal labels, of which one has the most characters.
+pub struct Letters {
+    pub name: &'static str,
+    pub one: String,
+    pub other: String,
+}
+
+/// The same characters twice, or in the other case, Latin and then Cyrillic; and one that folds to two others.
+pub fn in_letters() -> [Letters; 5] {
+    let whole = |characters: &str| cycled(characters, LONGEST_LABEL);
+    let of = |name, one: &str, other: &str| Letters {
+        name,
+        one: whole(one),
+        other: whole(other),
+    };
+    [
+        of("Latin, the same bytes", "rate", "rate"),
+        of("Latin, other case", "rate", "RATE"),
+        of("Cyrillic, the same bytes", "темп", "темп"),
+        of("Cyrillic, other case", "темп", "ТЕМП"),
+        Letters {
+            name: "ß, and SS for each",
+            one: whole("ß"),
+            other: "SS".repeat(LONGEST_LABEL),
+        },
     ]
 }
 

@@ -4,7 +4,7 @@ use super::chance::Chance;
 use super::grammar;
 use crate::second::MOST_BRACKETS_OPEN;
 
-const LABELS: [&str; 3] = ["a", "max rate", "é"];
+const LABELS: [&str; 4] = ["a", "max rate", "é", "Maß σ"];
 /// Near each other in length, case and escapes; the empty one has to stand in points.
 const DESTINATIONS: &[&str] = &["/u", "/U", "/v", "/u/", "/u\\)", "/u\\\\", "u(v)", ""];
 const TITLES: &[Option<&str>] = &[
@@ -84,7 +84,7 @@ fn text(said: &[Said], chance: &mut Chance) -> String {
     for _ in 0..chance.between(1, 3) {
         text += &definitions(said, chance);
         if chance.once_in(2) {
-            text += "x [a] [t][Max  Rate] `c`\n";
+            text += "x [a] [t][Max  Rate] [MASS Σ] `c`\n";
         }
         if chance.once_in(60) {
             text += &"[".repeat(MOST_BRACKETS_OPEN + 1);

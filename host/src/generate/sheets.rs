@@ -47,8 +47,8 @@ fn sheet(note: &[u8], chance: &mut Chance) -> Vec<u8> {
     sheet
 }
 
-/// Definitions of some of the texts between brackets in the note, in other letter case and space now and then,
-/// with a line of text before or after them at times.
+/// Definitions of some of the texts between brackets in the note, in other spellings and space, with a line of text
+/// before or after them at times.
 fn definitions_for(note: &[u8], chance: &mut Chance) -> Vec<u8> {
     let mut lines = Vec::new();
     if chance.once_in(4) {

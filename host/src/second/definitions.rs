@@ -2,7 +2,7 @@
 
 use super::source::{Origin, Source};
 use super::text::{is_space, Descent, Part, Text};
-use super::wrong::Gap;
+use super::wrong::{Gap, Purpose};
 use super::{Reader, Wrong};
 
 /// A definition with the text that it stands in and its label's compared form.
@@ -112,6 +112,10 @@ impl Reader {
     ) -> usize {
         let taken_from = self.block_of_definitions(source.text, block);
         let text = Text::of_part(self, source.text, taken_from);
+        let comparing = match source.origin {
+            Origin::Note => self,
+            Origin::Sheet => self.comparing(Purpose::Shared),
+        };
         let mut descent = Descent::from(&text, 0);
         while let Some((label, destination, title)) = descent.optionally(Descent::definition) {
             found.push(Definition {
@@ -119,7 +123,7 @@ impl Reader {
                 label,
                 destination,
                 title,
-                compared_label: self.compared_form(label.of(source.text).as_bytes()),
+                compared_label: comparing.compared_form(label.of(source.text).as_bytes()),
             });
             if self.misreads(Wrong::OneDefinitionABlock) {
                 break;

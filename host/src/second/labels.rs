@@ -1,5 +1,6 @@
 //! Labels, and when two of them are equal.
 
+use super::folding;
 use super::text::{is_space, Descent, Part, Text};
 use super::wrong::Within;
 use super::{Reader, Wrong};
@@ -11,7 +12,8 @@ impl Descent<'_> {
     /// A label, up to its closing bracket.
     ///
     /// "A label ends at the first unescaped `]`. It has no unescaped `[`, a character other than
-    /// space, tab and LF, and at most 999 characters (code points)."
+    /// space, tab and LF, and at most 999 characters (code points)." Document 02, request 3: "The 999 limit
+    /// counts characters before folding."
     fn label(&mut self) -> Option<Part> {
         let start = self.place();
         let first = self.at;
@@ -30,17 +32,9 @@ impl Descent<'_> {
             self.at += 1;
         }
         let label = self.since(start);
-        (has_other_than_space
-            && self.label_length(first, label) <= self.text.reader.longest_label())
-        .then_some(label)
-    }
-
-    /// How many characters the label has that ends here.
-    fn label_length(&self, first: usize, label: Part) -> usize {
-        if self.misreads(Wrong::LabelInBytes) {
-            return label.end - label.start;
-        }
-        self.at - first
+        let reader = self.text.reader;
+        let length = reader.counted_characters(&self.text.characters[first..self.at]);
+        (has_other_than_space && length <= reader.longest_label()).then_some(label)
     }
 
     /// "`[`, a label, `]`".
@@ -64,21 +58,23 @@ impl Reader {
         descent.bracketed_label().is_some() && descent.next().is_none()
     }
 
-    /// "Equal labels: fold A to Z to a to z, trim space, tab and LF, make each inner run of them
-    /// one space; then the bytes agree. Escapes are not undone." Any bytes have a form.
+    /// "Equal labels: fold .., trim space, tab and LF, make each inner run of them one space; then the bytes
+    /// agree. Escapes are not undone." Any bytes have a form.
     pub(super) fn compared_form(self, label: &[u8]) -> Vec<u8> {
-        if let Some(form) = self.misread_form(label) {
-            return form.into_bytes();
-        }
-        label
-            .split(|byte| is_space(char::from(*byte)))
-            .filter(|word| !word.is_empty())
-            .map(<[u8]>::to_ascii_lowercase)
-            .collect::<Vec<Vec<u8>>>()
-            .join(&b' ')
+        let folded = self.misread_folded(label);
+        let folded = folded.unwrap_or_else(|| folding::folded(label));
+        let form = self.misread_runs(&folded);
+        let form = form.unwrap_or_else(|| words(&folded, is_space).join(&b' '));
+        self.misread_form(label, form)
     }
 
     pub fn same_label(self, a: &[u8], b: &[u8]) -> bool {
         self.compared_form(a) == self.compared_form(b)
     }
+}
+
+/// What stands between the spaces of a label.
+pub(super) fn words(label: &[u8], is_space: impl Fn(char) -> bool) -> Vec<&[u8]> {
+    let between = label.split(|byte| is_space(char::from(*byte)));
+    between.filter(|word| !word.is_empty()).collect()
 }

@@ -3,13 +3,14 @@
 //! It is written from document 01, and the requests of document 02 that are in force, by the slowest
 //! honest method: a text becomes owned strings and lists of characters, the grammar is read by
 //! recursive descent, brackets are matched by counting the pieces between them, labels are compared
-//! by building their compared forms, the definitions of note and sheet become one list, each row's line
-//! is found among the places of its text's LFs, conflicting definitions are looked for among all pairs of
-//! the list, and the page is built as a string. Nothing is shared with the proved reader. Quoted sentences
-//! are document 01's where document 02 is not named.
+//! by building their compared forms, for which each character is looked for among the rows of Unicode's
+//! file, the definitions of note and sheet become one list, each row's line is found among the places of its
+//! text's LFs, conflicting definitions are looked for among all pairs of the list, and the page is built as a
+//! string. Nothing is shared with the proved reader. Quoted sentences are document 01's where document 02 is
+//! not named.
 //!
-//! The rooms: `text` (good characters, parts, the descent), `source` (the two texts), `labels`, `targets`
-//! (destinations and titles), `definitions`, `conflicts`, `marking` and `tails`, `rows`, `page`, `answers`.
+//! The rooms: `text` (good characters, parts, the descent), `source` (the two texts), `folding`, `labels`,
+//! `targets` (destinations and titles), `definitions`, `conflicts`, `marking` and `tails`, `rows`, `page`, `answers`.
 //! [`alone`] gives the answers for a note without a sheet, and not for a release. A [`Reader`] can be told
 //! to misread one rule (`wrong`); a test uses that to show what the stored cases tell apart. The functions
 //! [`read`], [`render`], [`resolve`] and [`same_label`] are the right reading.
@@ -18,6 +19,7 @@ pub mod alone;
 mod answers;
 mod conflicts;
 mod definitions;
+mod folding;
 mod labels;
 mod marking;
 mod page;
@@ -29,6 +31,7 @@ mod text;
 mod wrong;
 
 pub use answers::{number, ReadAnswer, RenderAnswer, ResolveAnswer};
+pub use folding::fold;
 pub use labels::LONGEST_LABEL;
 pub use marking::MOST_BRACKETS_OPEN;
 pub use rows::{kind, DefinitionRow, SpanRow, DEFINITION_ROW_WIDTH, SPAN_ROW_WIDTH};
@@ -40,6 +43,7 @@ use answers::{Counts, Left, Lent, Refusal};
 use definitions::Definition;
 use marking::{mark_each, Marking};
 use source::Source;
+use wrong::Purpose;
 
 /// "The reader takes a note, a definition table and a span table", the sheet "lent beside every notice"
 /// (document 02, request 1), and "a yes-or-no "release" setting" (request 8). The tables are told by how many
@@ -265,7 +269,7 @@ impl Reader {
 
     pub fn resolve(self, note: &[u8], sheet: &[u8], label: &[u8]) -> ResolveAnswer {
         let [note, sheet] = self.misread_texts(note, sheet);
-        let found = self.find(&note, &sheet, label);
+        let found = self.comparing(Purpose::Enquiry).find(&note, &sheet, label);
         self.misread_named(found.unwrap_or_else(ResolveAnswer::refused))
     }
 

@@ -142,7 +142,7 @@ impl Reader {
     /// "`&`, `<`, `>`, `"` become `&amp;`, `&lt;`, `&gt;`, `&quot;` in text, code and titles."
     fn escape_html(self, source: &str, written: Written) -> String {
         let mut html = String::new();
-        for character in source.chars() {
+        for character in self.misread_written(source, written).chars() {
             match character {
                 raw if self.misreads(Wrong::Unescaped(written, raw)) => html.push(raw),
                 '&' => html += "&amp;",
@@ -162,6 +162,7 @@ impl Reader {
     fn escape_destination(self, destination: &str) -> String {
         const STAY: &str = "-_.~!*'();:@=+$,/?%#";
         let mut href = String::new();
+        let destination = self.misread_written(destination, Written::Destination);
         for byte in destination.bytes() {
             let character = char::from(byte);
             let stays = character.is_ascii_alphanumeric() || STAY.contains(character);

@@ -4,7 +4,7 @@ use super::definitions::Definition;
 use super::rows::{kind, Target};
 use super::source::Source;
 use super::text::{Descent, Part, Text};
-use super::wrong::Gap;
+use super::wrong::{Gap, Purpose};
 use super::Wrong;
 
 /// A tail as read: the kind of link it makes, where it ends in the paragraph's characters, and
@@ -104,7 +104,7 @@ impl<'t> Tails<'t, '_> {
         } else {
             label
         };
-        match self.look_up(label.of(self.source.text)) {
+        match self.look_up(label.of(self.source.text), Purpose::Full) {
             None if self.misreads(Wrong::UndefinedFallsBack) => {
                 self.by_text(text_from, text_to, after)
             }
@@ -124,7 +124,7 @@ impl<'t> Tails<'t, '_> {
         if checked && !reader.is_label(own_text) {
             return None;
         }
-        let definition = self.look_up(own_text)?;
+        let definition = self.look_up(own_text, Purpose::ByText)?;
         let (kind, to) = match self.empty_brackets_end(after.at) {
             Some(end) => (kind::COLLAPSED, end),
             None => (kind::SHORTCUT, text_to + 1),
@@ -140,10 +140,10 @@ impl<'t> Tails<'t, '_> {
         found.then_some(closing + 1)
     }
 
-    fn look_up(&self, label: &str) -> Option<usize> {
+    fn look_up(&self, label: &str, purpose: Purpose) -> Option<usize> {
         let reader = self.text.reader;
         let seen = reader.definitions_seen(self.definitions, self.text.place(0));
-        reader.look_up(seen, label)
+        reader.comparing(purpose).look_up(seen, label)
     }
 
     /// The tail of a reference: "its destination and title are that definition's", and their "places lie in

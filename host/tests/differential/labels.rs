@@ -1,13 +1,14 @@
-//! Pairs of labels, compared by the library and by the second reader: all short ones over a few bytes,
+//! Pairs of labels, compared by the library and by the second reader: all short ones over a few pieces,
 //! every two bytes, and by chance any bytes and labels made of one another.
 
 use crate::compare;
 use crate::random;
 use host::cases;
 use host::generate::chance::Chance;
+use host::generate::spellings::respelled;
 
 /// Compares two labels, both ways; whether they are equal.
-fn equal(a: &[u8], b: &[u8]) -> bool {
+pub fn equal(a: &[u8], b: &[u8]) -> bool {
     let [one, other] = [compare::same_label(a, b), compare::same_label(b, a)];
     let numbers = one.and_then(|one| other.map(|other| [one, other]));
     let [one, other] = numbers.unwrap_or_else(|what| panic!("{what}"));
@@ -15,16 +16,14 @@ fn equal(a: &[u8], b: &[u8]) -> bool {
     one == 1
 }
 
-/// Every label of up to `most` of the bytes.
-fn every_label(bytes: &[u8], most: usize) -> Vec<Vec<u8>> {
+/// Every label of up to `most` of the pieces.
+pub fn every_label(pieces: &[&[u8]], most: usize) -> Vec<Vec<u8>> {
     let mut all = vec![Vec::new()];
     let mut longest = all.clone();
     for _ in 0..most {
         let longer = |label: &Vec<u8>| {
-            bytes
-                .iter()
-                .map(|byte| [label.as_slice(), &[*byte]].concat())
-                .collect::<Vec<_>>()
+            let longer = pieces.iter().map(|piece| [label, *piece].concat());
+            longer.collect::<Vec<_>>()
         };
         longest = longest.iter().flat_map(longer).collect();
         all.extend(longest.clone());
@@ -33,7 +32,7 @@ fn every_label(bytes: &[u8], most: usize) -> Vec<Vec<u8>> {
 }
 
 /// Compares all pairs; how many of them are equal.
-fn count_equal(labels: &[Vec<u8>]) -> usize {
+pub fn count_equal(labels: &[Vec<u8>]) -> usize {
     let pairs = labels
         .iter()
         .flat_map(|a| labels.iter().map(move |b| (a, b)));
@@ -42,10 +41,10 @@ fn count_equal(labels: &[Vec<u8>]) -> usize {
 
 #[test]
 fn every_two_short_labels() {
-    let labels = every_label(b"aA \t", 4);
+    let labels = every_label(&[b"a", b"A", b" ", b"\t"], 4);
     assert_eq!(labels.len(), 341);
     assert!(count_equal(&labels) > 5_000);
-    let labels = every_label(b"ab\n ", 4);
+    let labels = every_label(&[b"a", b"b", b"\n", b" "], 4);
     assert!(count_equal(&labels) > 3_000);
 }
 
@@ -62,43 +61,61 @@ fn every_two_bytes() {
     }
 }
 
-/// A label of any bytes, mostly of those that the rules name and their neighbours.
+/// Bytes that the rules name and their neighbours, and parts of characters.
+const BYTES: &[u8] =
+    b"aAzZ@[`{ \t\n\x0b\x0c\x1f\x20\x21\\\0\r\x7f\x80\xc3\xa9\xe0\xff\xce\xd0\xcf\xc5";
+
+/// Letters that fold, to one or to several, what they fold to, and some that do not fold.
+const LETTERS: &[&str] = &[
+    "ß", "ẞ", "ſ", "s", "\u{130}", "i\u{307}", "\u{131}", "\u{149}", "\u{1f0}", "\u{390}",
+    "\u{3b0}", "\u{3b9}", "\u{345}", "ς", "Σ", "\u{b5}", "\u{3bc}", "Ж", "ж", "\u{420}", "\u{440}",
+    "\u{400}", "\u{52e}", "\u{531}", "×", "÷", "É", "\u{23a}", "\u{2c65}", "\u{2126}", "\u{3a9}",
+    "\u{a0}", "😀",
+];
+
+/// A label of any bytes, mostly of those and of such letters.
 fn any_label(chance: &mut Chance) -> Vec<u8> {
-    const BYTES: &[u8] = b"aAzZ@[`{ \t\n\x0b\x0c\x1f\x20\x21\\\0\r\x7f\x80\xc3\xa9\xe0\xff";
     let length = chance.below(40);
-    let byte = |_| {
-        if chance.once_in(8) {
-            return chance.below(256) as u8;
-        }
-        chance.one_of(BYTES)
+    let piece = |_| match chance.below(16) {
+        0 | 1 => vec![chance.below(256) as u8],
+        2..=7 => chance.one_of(LETTERS).as_bytes().to_vec(),
+        _ => vec![chance.one_of(BYTES)],
     };
-    (0..length).map(byte).collect()
+    (0..length).flat_map(piece).collect()
 }
 
-/// The label with some letters' case changed and blanks put in where some stand, or at the ends, and now and
-/// then another byte.
+/// The label in another spelling, with blanks put in where some stand, or at the ends, and now and then another
+/// byte.
 fn made_of(label: &[u8], chance: &mut Chance) -> Vec<u8> {
     let blanks = |chance: &mut Chance| -> Vec<u8> {
         let count = chance.below(40);
         (0..count).map(|_| chance.one_of(b" \t\n")).collect()
     };
     let mut made = blanks(chance);
-    for byte in label {
-        match byte {
-            b' ' | b'\t' | b'\n' => {
-                made.push(chance.one_of(b" \t\n"));
-                made.extend(blanks(chance));
-            }
-            letter if letter.is_ascii_alphabetic() && chance.once_in(2) => made.push(letter ^ 32),
-            _ => made.push(*byte),
+    for byte in respelled_bytes(label, chance) {
+        if b" \t\n".contains(&byte) {
+            made.push(chance.one_of(b" \t\n"));
+            made.extend(blanks(chance));
+        } else {
+            made.push(byte);
         }
     }
     if chance.once_in(3) && !made.is_empty() {
         let place = chance.below(made.len());
-        made[place] = chance.one_of(b"aA \\@`");
+        made[place] = chance.one_of(b"aA \\@`\xce\x91\xd0\xb6");
     }
     made.extend(blanks(chance));
     made
+}
+
+/// The characters of the label in another spelling; bytes that stand in none stay.
+fn respelled_bytes(label: &[u8], chance: &mut Chance) -> Vec<u8> {
+    let mut spelled = Vec::new();
+    for chunk in label.utf8_chunks() {
+        spelled.extend(respelled(chance, chunk.valid()).bytes());
+        spelled.extend(chunk.invalid());
+    }
+    spelled
 }
 
 #[test]

@@ -13,6 +13,7 @@
 
 mod bad;
 mod compare;
+mod folding;
 mod labels;
 mod lent;
 mod lines;

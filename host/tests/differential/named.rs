@@ -77,7 +77,7 @@ pub fn compare_enquiries(texts: Texts, need: &Need) {
     for row in &need.definitions {
         let label = label_of(texts, row);
         assert_eq!(resolve(label).number, 0, "a defined label is found");
-        resolve(&label.to_ascii_uppercase());
+        resolve(String::from_utf8_lossy(label).to_uppercase().as_bytes());
         resolve(&[b" \n", label, b"\t"].concat());
     }
     for [_, _, _, start, end, ..] in &need.spans {
@@ -95,10 +95,10 @@ pub fn compare_at_every_size(texts: Texts) -> [CameUp; 2] {
 }
 
 #[test]
-fn base_examples_at_every_size() {
+fn examples_at_every_size() {
     let mut examples = examples();
-    examples.retain(Example::is_base);
-    assert_eq!(examples.len(), 229);
+    examples.retain(Example::is_in_scope);
+    assert_eq!(examples.len(), 229 + 5);
     let mut refusals = [[0; 10]; 2];
     for example in examples {
         let came_up = compare_at_every_size(Texts::alone(example.note.as_bytes()));

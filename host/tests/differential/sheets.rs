@@ -48,8 +48,8 @@ fn every_short_text_in_two() {
 
 /// Each example with its sheet: the example itself, and every cut of it.
 #[test]
-fn base_examples_in_two() {
-    for example in examples().iter().filter(|example| example.is_base()) {
+fn examples_in_two() {
+    for example in examples().iter().filter(|example| example.is_in_scope()) {
         let text = example.note.as_bytes();
         compare_at_every_size(Texts {
             note: text,
@@ -65,9 +65,12 @@ fn base_examples_in_two() {
 /// An empty sheet gives the answers for the note alone: the second reader by the joined list, and by one text.
 #[test]
 fn the_second_reader_with_an_empty_sheet() {
-    let base = examples();
-    let base = base.iter().filter(|example| Example::is_base(example));
-    let mut notes: Vec<Vec<u8>> = base.map(|example| example.note.clone().into()).collect();
+    let mut examples = examples();
+    examples.retain(Example::is_in_scope);
+    let notes = examples
+        .into_iter()
+        .map(|example| example.note.into_bytes());
+    let mut notes: Vec<Vec<u8>> = notes.collect();
     notes.extend((0..20_000).map(|index| {
         let chance = &mut random::chance(index);
         if chance.once_in(2) {

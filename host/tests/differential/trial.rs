@@ -4,7 +4,8 @@ use crate::compare::{self, Compared, Lending, Texts};
 use crate::settings;
 use host::generate::chance::Chance;
 use host::generate::grammar;
-use host::second::{self, DefinitionRow, SpanRow, DEFINITION_ROW_WIDTH, SPAN_ROW_WIDTH};
+use host::second::{self, kind, DefinitionRow, Reader, SpanRow, Wrong};
+use host::second::{DEFINITION_ROW_WIDTH, SPAN_ROW_WIDTH};
 
 /// What a note and a sheet need, and their rows.
 pub struct Need {
@@ -53,6 +54,18 @@ impl Need {
         }
     }
 
+    /// Whether a reference by its own text finds its definition by folding past Z alone.
+    fn is_folded(&self, texts: Texts, row: &SpanRow) -> bool {
+        let [kind, _, _, start, end, definition, ..] = *row;
+        if !matches!(kind, kind::COLLAPSED | kind::SHORTCUT) {
+            return false;
+        }
+        let own = &texts.note[start as usize..end as usize];
+        let label = label_of(texts, &self.definitions[definition as usize - 1]);
+        let in_ascii = own.is_ascii() && label.is_ascii();
+        !in_ascii && !Reader::misreading(Wrong::OnlyAsciiFolded).same_label(own, label)
+    }
+
     /// A label to ask for: mostly one that the note or the sheet defines, or nearly.
     fn label(&self, texts: Texts, chance: &mut Chance) -> Vec<u8> {
         if self.definitions.is_empty() || chance.once_in(4) {
@@ -97,6 +110,11 @@ fn label_by_chance(chance: &mut Chance) -> Vec<u8> {
         b"\\]",
         b"\\[",
         b"\xc3\xa9",
+        b"\xc3\x9f",
+        b"ss",
+        b"\xd0\x96",
+        b"\xce\xa3",
+        b"\xce",
         b"!",
         b"[",
         b"]",
@@ -128,6 +146,8 @@ pub struct Tally {
     lines: [usize; 4],
     /// References to definitions of each text.
     references: [usize; 2],
+    /// Those by their own text that would find no definition by folding A to Z alone.
+    folded: usize,
 }
 
 impl Tally {
@@ -148,6 +168,7 @@ impl Tally {
             self.kinds
         );
         assert!(from(&self.lines, &[0, 1, 2, 3]), "lines {:?}", self.lines);
+        assert!(self.folded >= least, "{} by folding", self.folded);
     }
 
     /// So did every answer that names the sheet, and references to both texts.
@@ -194,6 +215,8 @@ impl Tally {
                 self.references[text as usize] += 1;
             }
         }
+        let folded = need.spans.iter().filter(|row| need.is_folded(texts, row));
+        self.folded += folded.count();
     }
 }
 

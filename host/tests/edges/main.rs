@@ -1,11 +1,12 @@
 //! The edges of document 01 against the second reader. Rows and numbers were computed by hand from
 //! document 01, lines and what a sheet adds from document 02; where the reader disagreed, they were counted
-//! again from the note. But for those of `sheets` the notes are read beside an empty sheet, and but for those of
-//! `release` for no release.
+//! again from the note. What characters fold to is from Unicode's file. But for those of `sheets` and `folding` the
+//! notes are read beside an empty sheet, and but for those of `release` and `folding` for no release.
 
 mod bench;
 mod blocks;
 mod brackets;
+mod folding;
 mod labels;
 mod lengths;
 mod lines;

@@ -259,9 +259,10 @@ fn enquiries_of_special_destinations() {
     // "Undoing escapes before comparing labels: `[foo\!]` is not `[foo!]`."
     assert_eq!(resolve(b"[foo\\!]: 1", b"foo!"), refused_enquiry(7, 0));
     assert_eq!(resolve(b"[foo\\!]: 1", b"FOO\\!"), found(9, 10));
-    // Folding goes no further than A to Z.
+    // "Later characters match themselves" (document 02, request 3).
+    assert_eq!(resolve("[É]: 1".as_bytes(), "é".as_bytes()), found(6, 7));
     assert_eq!(
-        resolve("[É]: 1".as_bytes(), "é".as_bytes()),
+        resolve("[\u{2126}]: 1".as_bytes(), "\u{3c9}".as_bytes()),
         refused_enquiry(7, 0)
     );
 }

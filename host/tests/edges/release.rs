@@ -87,7 +87,7 @@ fn identical_repeats_pass() {
         check_passes(&note, &sheet);
     }
     // Other labels, and what is no definition.
-    let labels = "[a]: /1\n[b]: /2\n[a\\!]: /3\n[a!]: /4\n[\u{e9}]: /5\n[\u{c9}]: /6";
+    let labels = "[a]: /1\n[b]: /2\n[a\\!]: /3\n[a!]: /4\n[k]: /5\n[\u{212a}]: /6";
     check_passes(labels, "[c]: /7");
     check_passes("[a]: /1\n\nx\n[a]: /2\n\n[a]: /3 y", "z\n[a]: /4");
 }

@@ -87,7 +87,7 @@ fn numbers() -> impl FnMut() -> usize {
 }
 
 /// What random notes are made of.
-const PIECES: [&str; 32] = [
+const PIECES: [&str; 36] = [
     "[",
     "[",
     "]",
@@ -120,6 +120,10 @@ const PIECES: [&str; 32] = [
     "[a]: y 't'\n",
     "[B]: z\n",
     "\u{1b}",
+    "[ß]: v\n",
+    "[SS]",
+    "[Ж]: w\n",
+    "[ж]",
 ];
 
 fn random_note(next: &mut impl FnMut() -> usize) -> String {

@@ -96,7 +96,8 @@ fn no_definition() {
         ("a", ""),
         ("a", "[b]: c"),
         ("a!", "[a\\!]: c"),
-        ("é", "[É]: c"),
+        ("e", "[É]: c"),
+        ("\u{1e9e}", "[ß]: c"),
         (&"x".repeat(999), "[x]: c"),
     ] {
         assert_eq!(enquiry_refused(label.as_bytes(), note.as_bytes(), 7), line);

@@ -241,7 +241,10 @@ fn repeats_that_are_the_same_pass() {
     passes(repeats, repeats);
     passes("[a]: x ''\n[a]: x \"\"", "[a]: x ()");
     // Labels that are not equal, and what is no definition.
-    passes("[a!]: x\n[a\\!]: y\n[é]: x\n[É]: y", "[ab]: x\n[a b]: y");
+    passes(
+        "[a!]: x\n[a\\!]: y\n[k]: x\n[\u{212a}]: y",
+        "[ab]: x\n[a b]: y",
+    );
     passes(
         "[a]: x\ntext\n[a]: y\n\n[a](y) [a][a]",
         "[b]: x\n\ntext\n[a]: z",

@@ -5,8 +5,9 @@ use super::super::answers::{number, Lent, Refusal, RenderAnswer};
 use super::super::conflicts::{Pair, Said};
 use super::super::definitions::Definition;
 use super::super::text::{Part, LONGEST_NOTE};
+use super::folding::folded_text;
 use super::sheets::{count_of_note, without_bad_bytes};
-use super::{Reader, Written, Wrong};
+use super::{Purpose, Reader, Written, Wrong};
 
 impl Reader {
     /// Whether conflicts are judged after 3: "With no, all old answers hold."
@@ -30,7 +31,7 @@ impl Reader {
         let misread = |which: Written, bytes: String| (which == written).then_some(bytes);
         match self.wrong? {
             Wrong::UndoneCompared(which) => misread(which, self.undo_escapes(bytes, written)),
-            Wrong::FoldedCompared(which) => misread(which, bytes.to_ascii_lowercase()),
+            Wrong::FoldedCompared(which) => misread(which, folded_text(bytes)),
             Wrong::ComparedAsLabels(which) => {
                 let form = self.compared_form(bytes.as_bytes());
                 misread(which, String::from_utf8_lossy(&form).into_owned())
@@ -79,11 +80,13 @@ impl Reader {
     ) -> bool {
         let both = [pair.earlier, pair.later].map(|place| &joined[place]);
         let origins = both.map(|definition| definition.source.origin);
+        let bytes = both.map(|definition| definition.label.of(definition.source.text));
         match self.wrong {
             Some(Wrong::AnyLabelsConflict) => true,
-            Some(Wrong::LabelBytesCompared) => {
-                let bytes = both.map(|definition| definition.label.of(definition.source.text));
-                bytes[0] == bytes[1]
+            Some(Wrong::LabelBytesCompared) => bytes[0] == bytes[1],
+            Some(Wrong::FoldsAscii(Purpose::Conflict)) => {
+                let [earlier, later] = bytes.map(str::as_bytes);
+                self.comparing(Purpose::Conflict).same_label(earlier, later)
             }
             Some(Wrong::NeighboursCompared) => equal && pair.later == pair.earlier + 1,
             Some(Wrong::TextsComparedApart) => equal && origins[0] == origins[1],

@@ -1,40 +1,61 @@
 //! Misreadings of labels and destinations.
 
+use super::super::folding::fold;
+use super::super::labels::words;
 use super::super::text::is_space;
-use super::{Reader, Written, Wrong};
+use super::{Purpose, Reader, Wrong};
 
 impl Reader {
-    /// The compared form that a wrong reading gives a label.
-    pub(in super::super) fn misread_form(self, label: &[u8]) -> Option<String> {
-        let wrong = self.wrong?;
-        let label: &str = &String::from_utf8_lossy(label);
-        let lower = |word: &str| word.to_ascii_lowercase();
-        let trimmed = label.trim_matches(is_space);
-        match wrong {
-            Wrong::NotFolded => Some(form(label, is_space, str::to_string, " ")),
-            Wrong::UnicodeFolded => Some(form(label, is_space, str::to_lowercase, " ")),
-            Wrong::FoldOf(byte) => {
-                let fold = |word: &str| word.chars().map(|c| fold_but(byte, c)).collect();
-                Some(form(label, is_space, fold, " "))
-            }
-            Wrong::RunsDropped => Some(form(label, is_space, lower, "")),
-            Wrong::RunsKept => Some(lower(trimmed)),
+    /// How many characters a label has, which stand here with their places.
+    pub(in super::super) fn counted_characters(self, label: &[(usize, char)]) -> usize {
+        let folded = |own: char| fold(own).map_or(1, |folded| folded.chars().count());
+        match self.wrong {
+            Some(Wrong::LabelInBytes) => label.iter().map(|(_, own)| own.len_utf8()).sum(),
+            Some(Wrong::LabelCountedFolded) => label.iter().map(|(_, own)| folded(*own)).sum(),
+            _ => label.len(),
+        }
+    }
+
+    /// What a wrong reading makes of the spaces of a folded label.
+    pub(in super::super) fn misread_runs(self, folded: &[u8]) -> Option<Vec<u8>> {
+        match self.wrong? {
+            Wrong::RunsDropped => Some(words(folded, is_space).concat()),
+            Wrong::RunsKept => Some(trimmed(folded).to_vec()),
             Wrong::NotTrimmed => {
-                let inner = form(label, is_space, lower, " ");
-                let before = label.starts_with(is_space).then_some(" ");
-                let after = label.ends_with(is_space).then_some(" ");
-                Some([before.unwrap_or(""), &inner, after.unwrap_or("")].concat())
+                let space = |end: Option<&u8>| end.filter(|byte| is_blank(byte)).map(|_| b' ');
+                let [before, after] = [folded.first(), folded.last()].map(space);
+                let inner = words(folded, is_space).join(&b' ');
+                Some(before.into_iter().chain(inner).chain(after).collect())
             }
             Wrong::NoLabelSpace(other) => {
                 let space = |character| is_space(character) && character != other;
-                Some(form(label, space, lower, " "))
-            }
-            Wrong::UnicodeLabelSpace => Some(form(label, char::is_whitespace, lower, " ")),
-            Wrong::EscapesUndoneInLabels => {
-                let undone = self.undo_escapes(label, Written::Text);
-                Some(form(&undone, is_space, lower, " "))
+                Some(words(folded, space).join(&b' '))
             }
             _ => None,
+        }
+    }
+
+    /// The compared form as it is. Wrong readings call labels unequal for what stands before it here.
+    pub(in super::super) fn misread_form(self, label: &[u8], form: Vec<u8>) -> Vec<u8> {
+        let own = || words(label, is_space).join(&b' ');
+        let before = match self.wrong {
+            Some(Wrong::FirstBytesCompared) => {
+                usize::from(own().first().map_or(0, u8::to_ascii_lowercase))
+            }
+            Some(Wrong::LabelLengthsCompared) => own().len(),
+            Some(Wrong::LabelCountsCompared) => String::from_utf8_lossy(&own()).chars().count(),
+            _ => return form,
+        };
+        [before.to_string().as_bytes(), b"\n", &form].concat()
+    }
+
+    /// Who compares labels for this purpose.
+    pub(in super::super) fn comparing(self, purpose: Purpose) -> Reader {
+        match self.wrong {
+            Some(Wrong::FoldsAscii(misread)) if misread == purpose => {
+                Reader::misreading(Wrong::OnlyAsciiFolded)
+            }
+            _ => self,
         }
     }
 
@@ -47,24 +68,14 @@ impl Reader {
     }
 }
 
-/// A compared form: words between spaces, folded, with `between` between them.
-fn form(
-    label: &str,
-    is_space: impl Fn(char) -> bool,
-    fold: impl Fn(&str) -> String,
-    between: &str,
-) -> String {
-    let words = label.split(is_space).filter(|word| !word.is_empty());
-    words.map(fold).collect::<Vec<String>>().join(between)
+fn is_blank(byte: &u8) -> bool {
+    is_space(char::from(*byte))
 }
 
-/// A character folded, where one byte is folded exactly when it should not be.
-fn fold_but(byte: u8, character: char) -> char {
-    if character != char::from(byte) {
-        return character.to_ascii_lowercase();
-    }
-    match byte {
-        b'A'..=b'Z' => character,
-        other => char::from(other + 32),
-    }
+/// The label without the spaces at its ends.
+fn trimmed(label: &[u8]) -> &[u8] {
+    let ink = |byte: &u8| !is_blank(byte);
+    let start = label.iter().position(ink).unwrap_or(label.len());
+    let end = label.iter().rposition(ink).map_or(start, |last| last + 1);
+    &label[start..end]
 }

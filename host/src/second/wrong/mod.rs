@@ -5,6 +5,7 @@
 mod answers;
 mod conflicts;
 mod definitions;
+mod folding;
 mod labels;
 mod lines;
 mod marking;
@@ -15,7 +16,7 @@ mod sheets;
 mod switches;
 mod text;
 
-pub use parameters::{Gap, IllFormed, Within, Written};
+pub use parameters::{Gap, IllFormed, Purpose, Spot, Within, Written};
 pub use switches::Wrong;
 
 /// Who reads: by the rules, or with one of them misread.

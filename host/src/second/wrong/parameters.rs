@@ -2,7 +2,9 @@
 
 use super::super::answers::number;
 use super::super::source::Origin;
+use super::folding::LATER;
 use super::switches::Wrong;
+use crate::case_folding;
 
 /// Where separating space stands.
 #[derive(Clone, Copy, Debug, PartialEq, Eq)]
@@ -35,6 +37,28 @@ pub enum Written {
     Destination,
 }
 
+/// Where a character stands in a label.
+#[derive(Clone, Copy, Debug, PartialEq, Eq)]
+pub enum Spot {
+    Start,
+    AfterSpace,
+    BeforeSpace,
+    End,
+}
+
+/// What labels are compared for.
+#[derive(Clone, Copy, Debug, PartialEq, Eq)]
+pub enum Purpose {
+    /// The label of a full reference.
+    Full,
+    /// The text of a collapsed or a shortcut reference.
+    ByText,
+    /// A definition of the sheet.
+    Shared,
+    Enquiry,
+    Conflict,
+}
+
 /// Bytes that are no character and that a careless check lets through.
 #[derive(Clone, Copy, Debug, PartialEq, Eq)]
 pub enum IllFormed {
@@ -58,7 +82,9 @@ pub(super) fn all() -> Vec<Wrong> {
     all.extend(spaces());
     all.extend(written_bytes());
     all.extend(['\t', '\n', ' '].map(Wrong::NoLabelSpace));
-    all.extend((b'@'..=b'[').map(Wrong::FoldOf));
+    all.extend(NO_SPACES.map(Wrong::LabelSpaceToo));
+    all.extend(NO_SPACES.map(Wrong::TrimmedToo));
+    all.extend(folding());
     all.extend(SHORT.map(Wrong::ExactIsShort));
     all.extend(SHORT.map(Wrong::WritesWhatFits));
     all.extend(FORMS.map(Wrong::Forgives));
@@ -121,6 +147,42 @@ fn written_bytes() -> Vec<Wrong> {
     all
 }
 
+/// What characters fold to, where in a label, and for what.
+fn folding() -> Vec<Wrong> {
+    let several = || {
+        let rows = case_folding::rows().into_iter();
+        let several = rows.filter(|row| row.folded.chars().count() > 1);
+        several.map(|row| row.character)
+    };
+    let folded = || SOME_FOLDED.into_iter().chain(several());
+    let spots = [Spot::Start, Spot::AfterSpace, Spot::BeforeSpace, Spot::End];
+    let purposes = [
+        Purpose::Full,
+        Purpose::ByText,
+        Purpose::Shared,
+        Purpose::Enquiry,
+        Purpose::Conflict,
+    ];
+    let written = [
+        Written::Text,
+        Written::Code,
+        Written::Title,
+        Written::Destination,
+    ];
+    let mut all: Vec<Wrong> = ('@'..='[').map(Wrong::FoldOf).collect();
+    all.extend(UNFOLDED.map(Wrong::FoldOf));
+    all.extend(folded().map(Wrong::FoldOf));
+    all.extend(folded().map(Wrong::EntryOff));
+    all.extend(several().map(Wrong::FirstOfSeveral));
+    all.extend(several().map(Wrong::LastOfSeveral));
+    all.extend(several().map(Wrong::ZeroOfSeveral));
+    all.extend(LATER.map(|(later, _)| Wrong::LaterFolded(later)));
+    all.extend(spots.map(Wrong::SeveralCut));
+    all.extend(purposes.map(Wrong::FoldsAscii));
+    all.extend(written.map(Wrong::FoldedOnPage));
+    all
+}
+
 /// Those that have a text, or an answer's number, as their parameter.
 fn two_texts() -> Vec<Wrong> {
     let of_text = [number::TEXT_TOO_LONG, number::TEXT_ILL_FORMED];
@@ -159,6 +221,23 @@ fn conflicts() -> Vec<Wrong> {
     all.extend(others.map(Wrong::ConflictsAfter));
     all
 }
+
+/// Characters that are no space in labels, though others count them so.
+const NO_SPACES: [char; 7] = [
+    '\u{b}', '\u{c}', '\u{1f}', '\u{85}', '\u{a0}', '\u{2003}', '\u{3000}',
+];
+
+/// Characters that fold to themselves, beside those that do not.
+const UNFOLDED: [char; 4] = ['\u{bf}', '\u{d7}', '\u{3a2}', '\u{430}'];
+
+/// Characters that fold to one other, past Z: the edges of what folds alike, and what folds far.
+const SOME_FOLDED: [char; 34] = [
+    '\u{b5}', '\u{c0}', '\u{d6}', '\u{d8}', '\u{de}', '\u{100}', '\u{178}', '\u{17f}', '\u{181}',
+    '\u{1c4}', '\u{1c5}', '\u{23a}', '\u{23e}', '\u{345}', '\u{370}', '\u{386}', '\u{391}',
+    '\u{3a1}', '\u{3a3}', '\u{3ab}', '\u{3c2}', '\u{3d0}', '\u{3f4}', '\u{3f9}', '\u{3ff}',
+    '\u{400}', '\u{40f}', '\u{410}', '\u{42f}', '\u{460}', '\u{4c0}', '\u{4c1}', '\u{500}',
+    '\u{52e}',
+];
 
 /// The refusals for which too little is lent.
 const SHORT: [u32; 3] = [

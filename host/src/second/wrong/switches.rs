@@ -2,7 +2,7 @@
 
 use super::super::answers::number;
 use super::super::source::Origin;
-use super::parameters::{self, Gap, IllFormed, Within, Written};
+use super::parameters::{self, Gap, IllFormed, Purpose, Spot, Within, Written};
 
 /// The switches without a parameter are named one by one; [`Wrong::all`] adds those with one.
 macro_rules! switches {
@@ -31,8 +31,28 @@ macro_rules! switches {
             HrefOf(u8),
             /// The character is no space in a comparison of labels.
             NoLabelSpace(char),
-            /// The byte is folded exactly when it should not be.
-            FoldOf(u8),
+            /// The character is a space too in a comparison of labels.
+            LabelSpaceToo(char),
+            /// The character is trimmed at the ends of a label too.
+            TrimmedToo(char),
+            /// The character is folded exactly when it should not be, to the one 32 later.
+            FoldOf(char),
+            /// What the character folds to ends in the next one.
+            EntryOff(char),
+            /// The character folds to the first of the several alone.
+            FirstOfSeveral(char),
+            /// The character folds to the last of the several alone.
+            LastOfSeveral(char),
+            /// The character that folds to several folds to U+0000.
+            ZeroOfSeveral(char),
+            /// A character past the rows is folded too.
+            LaterFolded(char),
+            /// Of a character that folds to several the first alone is compared there.
+            SeveralCut(Spot),
+            /// A to Z alone are folded where labels are compared for this.
+            FoldsAscii(Purpose),
+            /// It is folded on the page.
+            FoldedOnPage(Written),
             /// The refusal with this number is given though exactly enough is lent.
             ExactIsShort(u32),
             /// The refusal with this number comes with the rows or bytes for which there is room.
@@ -57,7 +77,7 @@ macro_rules! switches {
             OneText(usize),
             /// It is compared with its escapes undone.
             UndoneCompared(Written),
-            /// It is compared with A to Z folded.
+            /// It is compared folded.
             FoldedCompared(Written),
             /// It is compared as labels are.
             ComparedAsLabels(Written),
@@ -241,13 +261,11 @@ switches! {
     LabelOneShorter,
     LabelOneLonger,
     LabelInBytes,
+    /// The label's limit counts characters after folding.
+    LabelCountedFolded,
     BlankLabel,
     BracketInLabel,
     LabelOnOneLine,
-    /// A to Z are not folded.
-    NotFolded,
-    /// Letters past Z are folded too.
-    UnicodeFolded,
     NotTrimmed,
     /// Inner runs of spaces stay as they are.
     RunsKept,
@@ -256,6 +274,40 @@ switches! {
     /// Other Unicode space counts as space.
     UnicodeLabelSpace,
     EscapesUndoneInLabels,
+    /// Labels that start with other bytes, letters of ASCII folded, are unequal.
+    FirstBytesCompared,
+    /// Labels of other lengths in bytes are unequal.
+    LabelLengthsCompared,
+    /// Labels of other numbers of characters are unequal.
+    LabelCountsCompared,
+
+    // Folding.
+    /// Nothing is folded.
+    NotFolded,
+    /// A to Z alone are folded.
+    OnlyAsciiFolded,
+    /// Letters are set in lower case in the place of folding, those past the rows too.
+    LowerCased,
+    /// Letters are set in upper case in the place of folding, those past the rows too.
+    UpperCased,
+    /// Characters that fold to several are not folded.
+    SimplyFolded,
+    /// The rows for Turkic languages hold: I folds to U+0131, and U+0130 to i.
+    TurkicFolded,
+    /// A letter and the accent after it are the letter with that accent.
+    Composed,
+    /// A byte that stands in no character is left out.
+    StrayDropped,
+    /// Bytes that stand in no character are U+FFFD.
+    StrayReplaced,
+    /// A byte that stands in no character is folded as the character with its number.
+    StrayAsLatin,
+    /// A byte that starts a character takes the next ones with it, whatever they are.
+    StrayJoined,
+    /// After a byte that stands in no character nothing is folded.
+    StrayEndsFolding,
+    /// An ASCII character in two bytes is folded, and in one.
+    OverlongFolded,
 
     // Destinations and titles.
     OpeningInPointed,
@@ -432,6 +484,7 @@ impl Wrong {
                 | Wrong::LabelWithBrackets
                 | Wrong::EmptyDestinationUndefined
                 | Wrong::ValueIsDefinition
+                | Wrong::FoldsAscii(Purpose::Enquiry)
                 | Wrong::EnquiryNames(_)
                 | Wrong::PartOf(_)
                 | Wrong::NamesSheet(number::LABEL_UNDEFINED | number::NOT_A_LABEL)
@@ -459,15 +512,51 @@ impl Wrong {
     pub fn is_of_comparison(self) -> bool {
         matches!(
             self,
-            Wrong::NotFolded
-                | Wrong::UnicodeFolded
-                | Wrong::FoldOf(_)
-                | Wrong::NotTrimmed
+            Wrong::NotTrimmed
                 | Wrong::RunsKept
                 | Wrong::RunsDropped
                 | Wrong::NoLabelSpace(_)
                 | Wrong::UnicodeLabelSpace
+                | Wrong::LabelSpaceToo(_)
+                | Wrong::TrimmedToo(_)
                 | Wrong::EscapesUndoneInLabels
+                | Wrong::FirstBytesCompared
+                | Wrong::LabelLengthsCompared
+                | Wrong::LabelCountsCompared
+        ) || self.is_of_folding()
+    }
+
+    /// Whether it concerns what the characters of labels fold to.
+    fn is_of_folding(self) -> bool {
+        matches!(
+            self,
+            Wrong::NotFolded
+                | Wrong::OnlyAsciiFolded
+                | Wrong::LowerCased
+                | Wrong::UpperCased
+                | Wrong::SimplyFolded
+                | Wrong::TurkicFolded
+                | Wrong::Composed
+                | Wrong::FoldOf(_)
+                | Wrong::EntryOff(_)
+                | Wrong::FirstOfSeveral(_)
+                | Wrong::LastOfSeveral(_)
+                | Wrong::ZeroOfSeveral(_)
+                | Wrong::LaterFolded(_)
+                | Wrong::SeveralCut(_)
+        )
+    }
+
+    /// Whether it concerns labels that are no good text, which only the comparison takes.
+    pub fn is_of_ill_formed_labels(self) -> bool {
+        matches!(
+            self,
+            Wrong::StrayDropped
+                | Wrong::StrayReplaced
+                | Wrong::StrayAsLatin
+                | Wrong::StrayJoined
+                | Wrong::StrayEndsFolding
+                | Wrong::OverlongFolded
         )
     }
 

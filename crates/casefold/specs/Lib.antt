@@ -1,0 +1,4 @@
+pub mod Table
+pub mod Fold
+pub mod Claims
+pub mod Samples

@@ -1,0 +1,1 @@
+// No function: what a character folds to stands in specs/, the theorems in proofs/.
