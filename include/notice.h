@@ -72,9 +72,9 @@
  * What costs more is lookup, since each reference is looked up among the definitions of both texts one by one. 500 definitions and as
  * many references to them as fit took 9 ms; of notes made to be slow, some 1,600 definitions and 1,500 references whose labels differ
  * only at their ends, and in the case of their letters, took 66 ms on one machine and up to 240 ms on a slower one, the longest that
- * was found for a note alone in ASCII; in Cyrillic letters such notes took twice as long, and with U+00DF and "ss" a little more: 120 and
- * 132 ms on a machine where ASCII ones took 58. A note of references beside a sheet of definitions has room for twice as many of each, and took three
- * to five times as long, up to 0.6 s where a note alone took 0.1 to 0.16 s.
+ * was found for a note alone in ASCII. In Cyrillic letters such notes took twice as long, and with U+00DF and "ss" a little more: 120
+ * and 132 ms on a machine where ASCII ones took 58. A note of references beside a sheet of definitions has room for twice as many of
+ * each, and took three to five times as long, up to 0.6 s where a note alone took 0.1 to 0.16 s.
  *
  * All these times are with release no. With yes each definition is looked up too, among those before it one by one, so that the
  * time for it grows with the square of the number of definitions: texts of definitions alone, with labels that start alike, took up

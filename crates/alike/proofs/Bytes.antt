@@ -2,15 +2,14 @@
 use Prim.Native.Nat.{ℕ, suc, _+_, _/_, _%_, _≤_, _<_, _^_}
 use native.Mathlib.Omega.{arith}
 use mathlib.Core.Path.{_≡_, refl, sym, ap, _∙_}
-use mathlib.Core.List.{List, [], _∷_, _++_}
+use mathlib.Core.List.{List, _∷_, _++_}
 use mathlib.Core.Bool.{Bool, true, false}
 use borrow.Author.Tests.{eq-eqb, ne-eqb, eqb-true, eqb-false}
-use lib.ListN.{length, getD, length-append}
+use lib.ListN.{length}
 use lib.Dec.{eqb}
 use Rattle.scan.specs.Byte.{blank}
 use Rattle.scan.specs.Reading.{past}
 use Rattle.scan.proofs.Test.{by}
-use Rattle.folding.specs.Word.{unpacked}
 use Rattle.matching.specs.Reading.{equals}
 use Rattle.alike.specs.Reading.{gap}
 use Rattle.alike.specs.Left.{formFrom, wordFrom, form, emit, Opens}

@@ -1,6 +1,6 @@
 -- What the character at a place gives: its first byte, and the bytes of it that are left.
-use Prim.Native.Nat.{ℕ, zero, suc, _+_, _*_, _/_, _%_, _^_, _<_}
-use native.Mathlib.Nat.{add-zero, div-lt-iff-lt-mul, pow-suc, mod-lt}
+use Prim.Native.Nat.{ℕ, zero, suc, _+_, _/_, _%_, _^_, _<_}
+use native.Mathlib.Nat.{div-lt-iff-lt-mul, pow-suc, mod-lt}
 use native.Mathlib.Omega.{arith}
 use mathlib.Core.Path.{_≡_, refl, sym, ap, _∙_}
 use mathlib.Core.List.{List, [], _∷_, _++_}
@@ -17,7 +17,7 @@ use Rattle.folding.specs.Word.{unpack, unpacked, wordOf}
 use Rattle.folding.proofs.Pair.{pair-bounds, code-low, code-high}
 use Rattle.folding.proofs.Words.{word-right, expand-headed}
 use Rattle.matching.proofs.Starts.{start-pair}
-use Rattle.alike.specs.Left.{formFrom, wordFrom, form, Opens}
+use Rattle.alike.specs.Left.{formFrom, wordFrom, Opens}
 use Rattle.alike.proofs.Left.{loose, word-one}
 
 -- ---- the bytes of a number

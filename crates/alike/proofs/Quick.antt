@@ -5,11 +5,11 @@ use native.Mathlib.Decide.{decLt}
 use native.Mathlib.Omega.{arith}
 use mathlib.Core.Path.{_≡_, refl, sym, ap, _∙_, subst}
 use mathlib.Core.List.{List}
-use mathlib.Core.Bool.{Bool, true, false, Bool·beq, not, _&&_, _||_}
-use borrow.Author.Tests.{eq-eqb, ne-eqb, eqb-true, eqb-false, leb-true, leb-false, lt-leb, ltb-true, le-ltb, not-true}
-use lib.ListN.{length, getD, List·getD-eq-default}
+use mathlib.Core.Bool.{Bool, true, false, not, _&&_, _||_}
+use borrow.Author.Tests.{eq-eqb, ne-eqb, eqb-true, leb-true, leb-false, lt-leb, ltb-true, le-ltb, not-true}
+use lib.ListN.{length, getD}
 use lib.Dec.{leb, ltb, eqb}
-use Rattle.scan.proofs.Test.{by, and-left, and-right, and-false, neither}
+use Rattle.scan.proofs.Test.{by, and-left, and-right, neither}
 use Rattle.scan.specs.Byte.{blank}
 use Rattle.scan.proofs.Scan.{peek-inside, past-stop}
 use Rattle.scan.specs.Reading.{past}

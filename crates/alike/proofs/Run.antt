@@ -8,7 +8,7 @@ use mathlib.Core.Bool.{Bool, true, false, true≢false}
 use borrow.Author.Tests.{eq-eqb, ne-eqb, eqb-true, eqb-false}
 use lib.ListN.{length, getD, length-append}
 use lib.Dec.{eqb}
-use Rattle.scan.specs.Byte.{within, blank}
+use Rattle.scan.specs.Byte.{blank}
 use Rattle.scan.proofs.Test.{by}
 use Rattle.scan.proofs.Scan.{past-stop}
 use Rattle.scan.specs.Reading.{past}
@@ -24,7 +24,7 @@ use Rattle.alike.specs.Left.{formFrom, wordFrom, form, leads, Opens, Pas
 use Rattle.alike.proofs.Left.{put, form-at, form-word, word-one}
 use Rattle.alike.proofs.Turn.{ascii-alike}
 use Rattle.alike.proofs.Opening.{word-pair, pair-inside}
-use Rattle.alike.proofs.Quick.{Each, each-left, each-right, plain-ink, same-left, same-right, same-byte, left-plain, right-plain, count-left, count-right, count-on}
+use Rattle.alike.proofs.Quick.{Each, plain-ink, same-left, same-right, same-byte, left-plain, right-plain, count-left, count-right, count-on}
 
 pub equals-more : (l f g : List ℕ) → equals (l ++ f) (l ++ g) ≡ equals f g
 unfolding equals

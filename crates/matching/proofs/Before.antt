@@ -1,10 +1,10 @@
 -- What was equal when only A to Z were folded is equal, and ASCII labels are equal exactly if they were.
-use Prim.Native.Nat.{ℕ, _<_}
+use Prim.Native.Nat.{ℕ}
 use native.Mathlib.Omega.{arith}
 use mathlib.Core.Path.{_≡_, refl, sym, ap, _∙_}
 use mathlib.Core.List.{List, [], _∷_, _++_, map}
 use mathlib.Core.Logic.{_↔_}
-use mathlib.Core.Bool.{Bool, true, false}
+use mathlib.Core.Bool.{true, false}
 use borrow.Author.Tests.{ltb-true, ltb-false}
 use lib.Dec.{ltb}
 use lib.ListN.{getD}
@@ -14,14 +14,14 @@ use Rattle.scan.specs.Every as every
 use Rattle.casefold.specs.Fold.{expand, lower}
 use Rattle.folding.specs.Pair.{pair, codeOf}
 use Rattle.folding.proofs.Pair.{pair-bounds, low-alone}
-use Rattle.matching.specs.Form.{Blanks, Word, last, byte, Over, Words, rest, word, joined, Equal}
+use Rattle.matching.specs.Form.{Blanks, Word, last, byte, Over, Words, rest, word, Equal}
 use Rattle.matching.specs.Reading.{foldsFrom, folds, squeeze, compared}
 use Rattle.matching.specs.Before.{Ascii, ComparedBefore, EqualBefore}
 use Rattle.matching.proofs.Forms.{folds-pair, folds-one}
 use Rattle.matching.proofs.Spelled.{lower-high, low-second, no-pair-0, lower-ascii}
 use Rattle.matching.proofs.Starts.{blank-low, lower-low, lower-ink}
 use Rattle.matching.proofs.Twice.{lower-twice, lower-under, swap, squeeze-twice}
-use Rattle.matching.proofs.Equality.{read, split, compared-iff, matches-iff, matches-equal}
+use Rattle.matching.proofs.Equality.{read, split, matches-iff, matches-equal}
 
 -- ---- folding A to Z first changes nothing
 lower-pair : (b x : ℕ) → pair b x ≡ false → pair (lower b) (lower x) ≡ false

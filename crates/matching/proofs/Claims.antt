@@ -1,8 +1,8 @@
 -- The claims of equal labels hold.
 use Prim.Native.Nat.{ℕ}
-use mathlib.Core.Path.{_≡_, ap, _∙_}
+use mathlib.Core.Path.{_≡_}
 use mathlib.Core.List.{List}
-use Rattle.matching.specs.Form.{Folded, Compared, Equal}
+use Rattle.matching.specs.Form.{Folded, Compared}
 use Rattle.matching.specs.Reading.{folds}
 use Rattle.matching.specs.Claims.{LabelClaims}
 use Rattle.matching.proofs.Folds.{folded-iff}

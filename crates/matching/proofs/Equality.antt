@@ -10,7 +10,7 @@ use Rattle.scan.proofs.Test.{by}
 use Rattle.scan.specs.Byte.{blank}
 use Rattle.scan.specs.Every as every
 use Rattle.matching.specs.Form.{Blanks, Word, last, byte, Over, Words, rest, word, joined, Compared, Equal}
-use Rattle.matching.specs.Reading.{folds, spaced, squeeze, compared, equals, matches}
+use Rattle.matching.specs.Reading.{folds, spaced, squeeze, compared, matches}
 use Rattle.matching.proofs.Forms.{squeeze-blank, squeeze-ink}
 use Rattle.matching.proofs.Folds.{folded-read, has-folded}
 -- passed on to those who compare parts as they are written

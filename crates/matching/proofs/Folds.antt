@@ -1,15 +1,14 @@
 -- `folds` is the folding of a label, and the only one.
-use Prim.Native.Nat.{ℕ, zero, suc, _+_, _*_, _≤_, _<_}
+use Prim.Native.Nat.{ℕ, zero, suc, _+_, _≤_, _<_}
 use native.Mathlib.Omega.{arith}
-use mathlib.Core.Path.{_≡_, refl, sym, ap, _∙_}
+use mathlib.Core.Path.{_≡_, refl, ap, _∙_}
 use mathlib.Core.Logic.{_↔_}
 use mathlib.Core.List.{List, [], _∷_, _++_}
-use mathlib.Core.Bool.{true, false}
-use borrow.Author.Tests.{eqb-true, eqb-false, leb-true, ltb-true, ltb-false}
-use lib.Dec.{eqb, leb, ltb}
-use lib.ListN.{length, getD, length-append}
-use Rattle.scan.specs.Byte.{within}
-use Rattle.scan.proofs.Test.{by, and-left, and-right}
+use mathlib.Core.Bool.{true}
+use borrow.Author.Tests.{eqb-true, eqb-false, ltb-true, ltb-false}
+use lib.Dec.{eqb, ltb}
+use lib.ListN.{length, length-append}
+use Rattle.scan.proofs.Test.{by}
 use Rattle.text.specs.Utf8.{_‥_, table, Character, Begins}
 use Rattle.text.specs.Reading.{characterLength}
 use Rattle.text.proofs.Character.{character-sound, character-complete, character-size}

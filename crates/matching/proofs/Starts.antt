@@ -3,7 +3,7 @@ use Prim.Native.Nat.{ℕ, _+_, _≤_, _<_}
 use native.Mathlib.Omega.{arith}
 use mathlib.Core.Path.{_≡_, refl, sym, ap, _∙_}
 use mathlib.Core.List.{List, [], _∷_, _++_}
-use mathlib.Core.Bool.{Bool, true, false, true≢false, not, _&&_}
+use mathlib.Core.Bool.{Bool, true, false, true≢false, not}
 use borrow.Author.Tests.{ne-eqb, eqb-true, leb-true, lt-leb, not-true}
 use lib.ListN.{getD}
 use lib.Dec.{leb, eqb}
@@ -14,7 +14,7 @@ use Rattle.folding.specs.Pair.{pair, codeOf, headed}
 use Rattle.folding.proofs.Pair.{code-low, code-high, low-alone}
 use Rattle.folding.proofs.Words.{expand-inked, expand-headed}
 use Rattle.matching.specs.Reading.{folds, spaced, squeeze}
-use Rattle.matching.proofs.Forms.{folds-pair, folds-one, squeeze-blank, squeeze-ink}
+use Rattle.matching.proofs.Forms.{folds-pair, folds-one, squeeze-ink}
 use Rattle.matching.proofs.Spelled.{no-pair-0}
 
 -- ---- blanks and other bytes

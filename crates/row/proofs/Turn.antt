@@ -12,7 +12,7 @@ use Rattle.matching.specs.Reading.{matches}
 use Rattle.texts.specs.Texts.{Texts, textOf}
 use Rattle.row.specs.declared.Range.{Range}
 use Rattle.row.specs.Row.{width}
-use Rattle.row.specs.First.{bytesOf, labelsOf}
+use Rattle.row.specs.First.{bytesOf}
 use Rattle.row.specs.Reading.{rangeAt, listedFrom, labelAt, matchFrom, rowFrom, rowOf, Within, Fit}
 
 pub match-hit : (k : ℕ) (l : List ℕ) (ls : List (List ℕ)) (label : List ℕ) → matches l label ≡ true → matchFrom k (l ∷ ls) label ≡ At k

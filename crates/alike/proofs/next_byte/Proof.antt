@@ -1,6 +1,5 @@
 -- Each way through is one step off the form.
 use borrow.Author.Needs.{needs}
-use mathlib.Core.Path.{refl}
 use Rattle.alike.proofs.Left.{ink-at}
 use Rattle.alike.proofs.Bytes.{step-left, step-over, step-gap, step-open}
 use Rattle.alike.proofs.next_byte.Statement.{statement}

@@ -1,8 +1,7 @@
 -- The two ways through are the two shapes of a character: two bytes of the table, or one byte.
 use borrow.Author.Needs.{needs}
-use native.Mathlib.Omega.{arith}
 use mathlib.Core.Path.{refl, sym, _∙_}
-use Rattle.alike.proofs.Opening.{opens-one, opens-pair, pair-inside}
+use Rattle.alike.proofs.Opening.{opens-one, opens-pair}
 use Rattle.alike.proofs.opened.Statement.{statement}
 use Rattle.alike.proofs.opened.Tie as tie
 

@@ -1,5 +1,4 @@
 -- The two ways through are the two answers of the first test of `same`.
-use borrow.Author.Needs.{needs}
 use borrow.Author.Tests.{leb-false}
 use lib.ListN.{length}
 use lib.Dec.{leb}

@@ -1,6 +1,6 @@
 -- What is left of the two labels compares as at first; a turn passes what is the same in both, and one character of each.
 use borrow.Author.Needs.{needs}
-use Prim.Native.Nat.{_+_, _<_, _^_}
+use Prim.Native.Nat.{_<_, _^_}
 use native.Mathlib.Nat.{lt-of-lt-of-le}
 use native.Mathlib.Omega.{arith}
 use mathlib.Core.Path.{_≡_, refl, sym, _∙_}

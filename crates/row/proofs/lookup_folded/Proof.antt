@@ -1,7 +1,6 @@
 -- The rows from row k on give what those from the first on do.
 use borrow.Author.Needs.{needs}
-use Prim.Native.Nat.{_-_, _+_, _*_}
-use native.Mathlib.Omega.{arith}
+use Prim.Native.Nat.{_-_}
 use mathlib.Core.Path.{_≡_, refl, sym, _∙_}
 use Rattle.texts.specs.Texts.{texts}
 use Rattle.row.specs.Reading.{rowFrom}
