@@ -5,7 +5,7 @@
  * not end in a byte 0. Beside it a second text under the same limits is lent, the sheet: link reference definitions that many
  * notes share. Three entries read the two, and one compares labels:
  *
- *   notice_read         finds the definitions of both texts, and the note's links and code spans
+ *   notice_read         finds the definitions of both texts, and the note's links, images and code spans
  *   notice_render       does the same and writes the page, the HTML of the note's paragraphs
  *   notice_resolve      finds the destination that the two give to a label
  *   notice_same_label   says whether two labels are equal
@@ -23,6 +23,10 @@
  * U+0000 to U+052F: A to Z, and Latin, Greek and Cyrillic letters become small ones, and a few become several, as U+00DF "ss". Later
  * characters match only themselves, U+1E9E, U+2126 and U+212A among them, and so does a byte that stands in no good character. Only
  * labels are folded, and the 999 characters of a label are counted before.
+ *
+ * An image is written as a link with "!" before its first bracket, and its tail is read as a link's. Its description, which stands
+ * between its two brackets, may hold links, images and code spans. A link may hold images and code spans, but no link at any depth, in
+ * its images neither. "\!" is an escape, after which a bracket opens no image; of "!!" before a bracket the second opens one with it.
  *
  * notice_read and notice_render take a setting, `release`: 0 is no, any other number yes. With yes, for a note that goes out, they
  * refuse definitions that conflict. Two definitions conflict if their labels are equal and they differ in the bytes of the
@@ -58,16 +62,18 @@
  *
  * Cost
  *
- * Stack: a call takes less than 52 KiB for itself, whatever the texts (49,848 bytes at most, 3,544 for notice_resolve, 3,160 for
- * notice_same_label; 2,656 of each are the table of folding). It was measured on the notes of the benchmark, beside their sheets and
- * as their own sheets, by running each entry on a stack that was marked before; the library's tests do so again.
+ * Stack: a call takes less than 52 KiB for itself, and notice_render less than 120 KiB, whatever the texts (49,688 bytes at most
+ * for notice_read, 115,400 for notice_render, 3,544 for notice_resolve, 3,160 for notice_same_label; 2,656 of each are the table of
+ * folding, 65,536 of notice_render's the table of the places where links, images and code spans start). It was measured on the notes
+ * of the benchmark, beside their sheets and as their own sheets, by running each entry on a stack that was marked before; the
+ * library's tests do so again.
  *
  * Time: but for one thing, reading costs what the lengths of the note and the sheet cost, and the page its own length besides. It was
- * measured on virtual cores of an AMD EPYC and an Intel Xeon (x86-64), with 222,913 notes of the longest size beside an empty sheet,
- * made of short words to be slow: repeated, one after the other, around a text as deep as brackets may go, and in rising runs. The
- * slowest took 50 ns a byte, 1.6 ms, and the slowest enquiry, for a label of 990 blanks, 51 ns a byte of the two texts. None of 43,188
- * sheets beside an empty note was among the slowest. The search counts 150 ns a byte, 5 ms for the longest note, as the most that a
- * call may take.
+ * measured on virtual cores of an AMD EPYC and an Intel Xeon (x86-64), with 287,219 notes of the longest size beside an empty sheet,
+ * made of short words to be slow: repeated, one after the other, around a text as deep as brackets may go, between what opens and
+ * closes links and images, and in rising runs. The slowest took 50 ns a byte, 1.6 ms, and the slowest enquiry, for a label of 990
+ * blanks, 51 ns a byte of the two texts. None of 59,306 sheets beside an empty note took longer. The search counts 150 ns a byte, 5 ms
+ * for the longest note, as the most that a call may take. A page takes some half a microsecond more, in which its table is cleared.
  *
  * What costs more is lookup, since each reference is looked up among the definitions of both texts one by one. 500 definitions and as
  * many references to them as fit took 9 ms; of notes made to be slow, some 1,600 definitions and 1,500 references whose labels differ
@@ -102,8 +108,8 @@
  *   2       all            the text has byte 0 or 13, or ill-formed UTF-8              where the first bad character starts in it
  *   3       read, render   fewer whole definition rows are lent than both texts have   rows needed, for both
  *                          definitions
- *   4       read, render   some paragraph of the note has over NOTICE_DEPTH brackets   place of the first bracket too many
- *                          open at once
+ *   4       read, render   some paragraph of the note has over NOTICE_DEPTH brackets   place of the first bracket too many: its "["
+ *                          open at once, "[" and "![" alike
  *   5       read, render   fewer whole span rows are lent than spans                   rows needed
  *   6       render         the page buffer is shorter than the HTML                    bytes needed
  *   7       resolve        no definition has an equal label                            0
@@ -161,12 +167,13 @@ extern "C" {
 #define NOTICE_DEFINITION_LINE 7
 
 /*
- * A span row is eleven numbers. The rows stand in increasing order of NOTICE_SPAN_END. Spans are the note's: their places and lines
- * lie in it. A span runs from its opening bracket or backtick to the end of its tail or closing backticks. The text of a link lies
- * between its two brackets, that of a code span between the backtick strings. NOTICE_SPAN_DEFINITION is the number of the definition
- * that a reference uses, from 1, as its row counts; 0 for a code span and an inline link. The destination and the title of a
- * reference are those of that definition, and their places lie in the text that its row names; those of an inline link lie in the
- * note. NOTICE_SPAN_LINE is the line of the span's start.
+ * A span row is eleven numbers. The rows stand in increasing order of NOTICE_SPAN_END, so that an image comes after what it holds.
+ * Spans are the note's: their places and lines lie in it. A span runs from its opening bracket or backtick, an image from its "!", to
+ * the end of its tail or closing backticks. The text of a link or an image lies between its two brackets, that of a code span between
+ * the backtick strings. NOTICE_SPAN_DEFINITION is the number of the definition that a reference uses, from 1, as its row counts; 0 for
+ * a code span and an inline link or image. The destination and the title of a reference are those of that definition, and their places
+ * lie in the text that its row names; those of an inline link or image lie in the note. NOTICE_SPAN_LINE is the line of the span's
+ * start.
  */
 #define NOTICE_SPAN_WIDTH 11
 
@@ -188,6 +195,12 @@ extern "C" {
 #define NOTICE_FULL 3
 #define NOTICE_COLLAPSED 4
 #define NOTICE_SHORTCUT 5
+
+/* Those of images: ![text](destination), ![text][label], ![label][], ![label]. */
+#define NOTICE_INLINE_IMAGE 6
+#define NOTICE_FULL_IMAGE 7
+#define NOTICE_COLLAPSED_IMAGE 8
+#define NOTICE_SHORTCUT_IMAGE 9
 
 /*
  * Reads the note and the sheet and fills the two tables, or refuses. `release` is 0 for no, any other number for yes.
@@ -225,6 +238,10 @@ uint32_t notice_read(const uint8_t *note, size_t note_len, const uint8_t *sheet,
  *   1, 2, 3  as before the call                      as before the call                      as before the call
  *   9, 4, 5  its rows, the rest as before the call   as before the call                      as before the call
  *   6        its rows, the rest as before the call   its rows, the rest as before the call   as before the call
+ *
+ * An image is <img src="D" alt="A" title="T" />, where D and T are as for a link, without the last attribute where there is no title or
+ * an empty one. A is what its description would be on the page, without tags: text with escapes undone, the content of code spans, the
+ * text of links, the A of images.
  *
  * No byte 0 is written after the HTML. To learn how long the page is, lend a page buffer of length 0: answer 6 tells it.
  */

@@ -36,10 +36,11 @@ pub fn definitions(label: &[u8], rest: &[u8]) -> Shape {
     repeated(&[b"[", label, b"]:", rest, b"\n"].concat())
 }
 
-/// A word as often as brackets may be open, a second one over so many bytes, a third one as often as the
-/// first; and all of it over and over.
+/// A word as often as brackets may be open, each of its own one of them, a second one over so many bytes, a third
+/// one as often as the first; and all of it over and over.
 pub fn around(open: &[u8], middle: &[u8], bytes: usize, close: &[u8]) -> Shape {
-    let deep = MOST_BRACKETS_OPEN - 1;
+    let opened = open.iter().filter(|byte| **byte == b'[').count();
+    let deep = (MOST_BRACKETS_OPEN - 1) / opened.max(1);
     let room = LONGEST_NOTE - deep * (open.len() + close.len());
     let unit = [
         open.repeat(deep),

@@ -28,12 +28,25 @@ const MORE_TRIES: usize = 4;
 const SECONDS: u64 = 1800;
 
 /// The bytes that mean something in a paragraph or a definition, and a letter.
-const MARKS: &[u8] = b"[]()<\"\\` a\n:";
+const MARKS: &[u8] = b"![]()<\"\\` a\n:";
 /// All ASCII punctuation, two letters, and the blanks.
 const ALL: &[u8] = b"!\"#$%&'()*+,-./:;<=>?@[\\]^_`{|}~ab \t\n";
 /// What stands between the two ends of a note, and how much of it.
 const MIDDLES: [&[u8]; 3] = [b"a", b"\\!", b"`a"];
 const AMOUNTS: [usize; 2] = [400, LONGEST_NOTE];
+/// What opens pairs of both sorts, and what closes them, with tails and without.
+const OPENINGS: [&[u8]; 6] = [b"[", b"![", b"[![", b"![[", b"![a ", b"[a `b`![c "];
+const CLOSINGS: [&[u8]; 9] = [
+    b"]",
+    b"](b)",
+    b"](b 'c')",
+    b"](b)](c)",
+    b"](b)]",
+    b"](b",
+    b"][]",
+    b"][a]",
+    b" d](<e f>)",
+];
 /// The first lengths of rising runs.
 const LEASTS: [usize; 3] = [1, 256, 1024];
 
@@ -49,7 +62,8 @@ fn main() -> ExitCode {
     let mut lent = Lent::for_any_note();
     let mut slowest = Slowest::default();
     let mut tried = 0;
-    let notes = in_one_word().chain(in_two_words()).chain(rising_runs());
+    let words = in_one_word().chain(in_two_words());
+    let notes = words.chain(pairs_nested()).chain(rising_runs());
     for shape in notes.chain(sheets()) {
         if Instant::now() > end {
             println!("{tried} notes and sheets in {seconds} seconds: not all");
@@ -88,6 +102,16 @@ fn in_two_words() -> impl Iterator<Item = Shape> {
             shapes.extend(AMOUNTS.map(|bytes| around(&first, middle, bytes, &second)));
         }
         shapes
+    })
+}
+
+/// Links and images inside each other, around a text.
+fn pairs_nested() -> impl Iterator<Item = Shape> {
+    OPENINGS.into_iter().flat_map(|open| {
+        CLOSINGS.into_iter().flat_map(move |close| {
+            let middles = MIDDLES.into_iter();
+            middles.flat_map(move |middle| AMOUNTS.map(|bytes| around(open, middle, bytes, close)))
+        })
     })
 }
 

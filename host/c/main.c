@@ -1,6 +1,6 @@
 /* Runs the entries of notice.h on the whole example of document 01, alone and with its definition in a sheet, on every refusal of each
- * text, on empty buffers, on texts of several lines and on definitions that conflict, each with release no and yes, and compares each
- * number and all lent memory with what documents 01 and 02 say. Writes "ok", or what differs, and then exits with 1. */
+ * text, on empty buffers, on texts of several lines, on definitions that conflict and on images, each with release no and yes, and
+ * compares each number and all lent memory with what documents 01 and 02 say. Writes "ok", or what differs, and then exits with 1. */
 #include "notice.h"
 
 #include <stdio.h>
@@ -19,7 +19,7 @@
 /* The numbers of each table, three rows and part of another, and the bytes of a page. */
 #define DEFINITIONS (3 * DEFINITION + 2)
 #define SPANS (3 * SPAN + 3)
-#define PAGE 64
+#define PAGE 96
 
 /* A note and a sheet, and what is to be read in them; `conflict` is the number of the first definition that conflicts with an earlier
  * one, 0 for none. */
@@ -294,6 +294,39 @@ static void over_lines(void) {
     lending_cases(&sample);
 }
 
+/* Images of each kind, images and links inside each other; the sheet has a definition. */
+static void images(void) {
+    static const uint8_t sheet[] = "[s]: /s";
+    static const uint8_t references[] = "![x][s] ![s][] ![S]";
+    static const uint8_t in_image[] = "![a ![b](c)](d 't')";
+    static const uint8_t in_link[] = "[![a](b)](c)";
+    static const uint8_t around_link[] = "[![[a](b)](c)](d)";
+    static const uint8_t none[] = "\\![s] !\\[s] ![t]";
+    static const struct sample samples[] = {
+        {"references to images", references, sizeof references - 1, sheet, sizeof sheet - 1,
+         {{NOTICE_SHEET, 1, 2, 5, 7, 0, 0, 1}}, 1, 0,
+         {{NOTICE_FULL_IMAGE, 0, 7, 2, 3, 1, 5, 7, 0, 0, 1}, {NOTICE_COLLAPSED_IMAGE, 8, 14, 10, 11, 1, 5, 7, 0, 0, 1},
+          {NOTICE_SHORTCUT_IMAGE, 15, 19, 17, 18, 1, 5, 7, 0, 0, 1}}, 3,
+         "<p><img src=\"/s\" alt=\"x\" /> <img src=\"/s\" alt=\"s\" /> <img src=\"/s\" alt=\"S\" /></p>\n"},
+        {"an image in an image", in_image, sizeof in_image - 1, sheet, sizeof sheet - 1, {{NOTICE_SHEET, 1, 2, 5, 7, 0, 0, 1}}, 1, 0,
+         {{NOTICE_INLINE_IMAGE, 4, 11, 6, 7, 0, 9, 10, 0, 0, 1}, {NOTICE_INLINE_IMAGE, 0, 19, 2, 11, 0, 13, 14, 16, 17, 1}}, 2,
+         "<p><img src=\"d\" alt=\"a b\" title=\"t\" /></p>\n"},
+        {"an image in a link", in_link, sizeof in_link - 1, sheet, sizeof sheet - 1, {{NOTICE_SHEET, 1, 2, 5, 7, 0, 0, 1}}, 1, 0,
+         {{NOTICE_INLINE_IMAGE, 1, 8, 3, 4, 0, 6, 7, 0, 0, 1}, {NOTICE_INLINE, 0, 12, 1, 8, 0, 10, 11, 0, 0, 1}}, 2,
+         "<p><a href=\"c\"><img src=\"b\" alt=\"a\" /></a></p>\n"},
+        {"no link around a link in an image", around_link, sizeof around_link - 1, sheet, sizeof sheet - 1,
+         {{NOTICE_SHEET, 1, 2, 5, 7, 0, 0, 1}}, 1, 0,
+         {{NOTICE_INLINE, 3, 9, 4, 5, 0, 7, 8, 0, 0, 1}, {NOTICE_INLINE_IMAGE, 1, 13, 3, 9, 0, 11, 12, 0, 0, 1}}, 2,
+         "<p>[<img src=\"c\" alt=\"a\" />](d)</p>\n"},
+        {"no image", none, sizeof none - 1, sheet, sizeof sheet - 1, {{NOTICE_SHEET, 1, 2, 5, 7, 0, 0, 1}}, 1, 0,
+         {{NOTICE_SHORTCUT, 2, 5, 3, 4, 1, 5, 7, 0, 0, 1}}, 1, "<p>!<a href=\"/s\">s</a> ![s] ![t]</p>\n"},
+    };
+    size_t i;
+    for (i = 0; i < sizeof samples / sizeof samples[0]; i++) {
+        lending_cases(&samples[i]);
+    }
+}
+
 /* All three entries refuse the two texts, and leave what they are lent as it was. */
 static void refused(const char *name, const uint8_t *note, size_t note_len, const uint8_t *sheet, size_t sheet_len, uint32_t number,
                     uint64_t value, uint64_t text) {
@@ -339,6 +372,7 @@ static void limits(void) {
                           {{NOTICE_NOTE, 1, 4, 7, 14, 16, 20, 1}, {NOTICE_SHEET, 1, 4, 7, 14, 16, 20, 1}}, 2, 0, {{0}}, 0, ""};
     struct lent lent = {DEFINITIONS, SPANS, PAGE};
     struct wanted wanted = {NOTICE_TOO_DEEP, 0, NOTICE_NOTE, 1, 0, 0};
+    size_t i;
     memset(room, 'a', sizeof room);
     memset(more_room, '[', sizeof more_room);
     plain("no note and no sheet", 0, NULL, 0, NOTICE_OK, 0);
@@ -346,6 +380,14 @@ static void limits(void) {
     memset(room, '[', sizeof room);
     plain("1,024 brackets", NOTICE_DEPTH, more_room, NOTICE_DEPTH + 1, NOTICE_OK, 0);
     plain("1,025 brackets", NOTICE_DEPTH + 1, NULL, 0, NOTICE_TOO_DEEP, NOTICE_DEPTH);
+    for (i = 0; i < NOTICE_DEPTH; i++) {
+        room[2 * i] = '!';
+    }
+    plain("1,024 image openings", 2 * NOTICE_DEPTH, NULL, 0, NOTICE_OK, 0);
+    plain("1,024 image openings and a bracket", 2 * NOTICE_DEPTH + 1, NULL, 0, NOTICE_TOO_DEEP, 2 * NOTICE_DEPTH);
+    room[2 * NOTICE_DEPTH] = '!';
+    plain("1,025 image openings", 2 * NOTICE_DEPTH + 2, NULL, 0, NOTICE_TOO_DEEP, 2 * NOTICE_DEPTH + 1);
+    memset(room, '[', sizeof room);
     memcpy(room, EXAMPLE, sizeof EXAMPLE - 1);
     deep.note_len = sizeof EXAMPLE + NOTICE_DEPTH;
     deep.sheet_len = FIRST_LINE;
@@ -413,6 +455,7 @@ int main(void) {
     both_texts();
     conflicts();
     over_lines();
+    images();
     refused_texts();
     limits();
     enquiries();

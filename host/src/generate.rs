@@ -4,6 +4,7 @@ pub mod alphabets;
 pub mod bench_notes;
 pub mod chance;
 pub mod grammar;
+pub mod images;
 pub mod long_labels;
 pub mod repeats;
 pub mod sheets;

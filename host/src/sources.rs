@@ -6,7 +6,7 @@ const SOURCES: &str = include_str!("../tests/data/examples.json");
 const STANDARD: &str = include_str!("../tests/data/gfm-0.29-examples.json");
 
 /// The requests of document 02 that are in force.
-pub const IN_FORCE: [usize; 6] = [1, 2, 3, 4, 8, 9];
+pub const IN_FORCE: [usize; 7] = [1, 2, 3, 4, 5, 8, 9];
 
 /// The examples whose page is not given, though no request is missing, and why.
 pub const UNMET: [(&str, &str); 1] = [(
@@ -27,6 +27,11 @@ pub struct Example {
 }
 
 impl Example {
+    /// Whether it takes a request.
+    pub fn takes(&self, request: usize) -> bool {
+        self.needs.contains(&request)
+    }
+
     /// Whether it is in scope, with no request missing.
     pub fn is_in_scope(&self) -> bool {
         self.status != "out" && self.needs.iter().all(|request| IN_FORCE.contains(request))

@@ -131,5 +131,5 @@ fn every_wrong_reading_is_told_apart() {
     assert!(missed.is_empty(), "told apart by no case: {missed:?}");
     let kinds = Wrong::kinds();
     println!("{kinds} kinds, {} readings", Wrong::all().len());
-    assert!(kinds >= 249, "{kinds} kinds");
+    assert!(kinds >= 299, "{kinds} kinds");
 }

@@ -15,8 +15,9 @@ fn page(note: &str) -> String {
     String::from_utf8(answer.page.expect("a page on success")).expect("a page in UTF-8")
 }
 
-/// How many of the sources' examples are met: those of document 01, and those of request 3 but for one.
-const MET: usize = 229 + 4;
+/// How many of the sources' examples are met: those of document 01, those of request 3 but for one, and those of
+/// request 5 that ask for no other request.
+const MET: usize = 229 + 4 + 28;
 
 /// The examples of the sources that are met.
 fn met() -> Vec<Example> {
@@ -33,14 +34,15 @@ fn every_example_has_its_place() {
     assert_eq!(count("base"), 229);
     assert_eq!(count("waiting"), 104);
     assert_eq!(count("out"), 8);
-    assert_eq!(examples.iter().filter(|e| e.is_in_scope()).count(), 229 + 5);
+    let in_scope = examples.iter().filter(|e| e.is_in_scope());
+    assert_eq!(in_scope.count(), 229 + 5 + 28);
     assert_eq!(met().len(), MET);
     let standard = standard_examples();
     let count = |status: &str| standard.iter().filter(|e| e.status == status).count();
     assert_eq!(standard.len(), 364);
     assert_eq!(count("base"), 181);
     assert_eq!(count("out"), 20);
-    assert_eq!(standard.iter().filter(|e| e.is_met()).count(), 181 + 2);
+    assert_eq!(standard.iter().filter(|e| e.is_met()).count(), 181 + 2 + 16);
 }
 
 /// Fails where a page is another than the example's.
@@ -71,13 +73,18 @@ fn pages_of_the_standards_examples() {
     check_pages(&examples);
 }
 
+/// The names of the examples in scope that a request is for, those of the sources and then those of the standard.
+fn names_of(request: usize) -> Vec<String> {
+    let mut examples = examples();
+    examples.extend(standard_examples());
+    examples.retain(|example| example.takes(request) && example.is_in_scope());
+    let names = examples.into_iter();
+    names.map(|example| example.name).collect()
+}
+
 /// The examples that folding is for, by their names.
 #[test]
 fn examples_of_request_3() {
-    let mut examples = examples();
-    examples.extend(standard_examples());
-    examples.retain(|example| example.status == "waiting" && example.is_in_scope());
-    let names: Vec<&str> = examples.iter().map(|e| e.name.as_str()).collect();
     let wanted = [
         "example 000 548",
         "example 001 526",
@@ -87,7 +94,28 @@ fn examples_of_request_3() {
         "example GFM 175",
         "example GFM 548",
     ];
-    assert_eq!(names, wanted);
+    assert_eq!(names_of(3), wanted);
+}
+
+/// Those that images are for.
+#[test]
+fn examples_of_request_5() {
+    let numbered = |source: &str, numbers: &[usize]| {
+        let name = |number: &usize| format!("example {source} {number}");
+        numbers.iter().map(name).collect::<Vec<_>>()
+    };
+    let lines = [
+        904, 909, 911, 927, 929, 931, 933, 936, 939, 943, 950, 954, 960, 972,
+    ];
+    let wanted = [
+        numbered("000", &[525, 528, 539]),
+        numbered("001", &[503, 506, 517]),
+        numbered("003", &[5, 61, 62, 63, 65, 66, 67, 70]),
+        numbered("004 line", &lines),
+        numbered("GFM", &[525, 528, 539, 580, 582, 583, 586, 587, 588]),
+        numbered("GFM", &[589, 590, 591, 592, 594, 596, 599]),
+    ];
+    assert_eq!(names_of(5), wanted.concat());
 }
 
 /// The page of an example that stays unmet is another: the label is no link, since nothing equals it.

@@ -5,7 +5,7 @@
 //! whole row, so that they stand as they were. Where request 8 was not, the case is for no release. Where request 3
 //! was not, the answer is that of the second reader folding A to Z alone, which is checked; with request 3 it is the
 //! same, but for seven that are named here: of those the second reader's answer is wanted, its number and value as
-//! a person reads them off.
+//! a person reads them off. Where request 5 was not, no `![` stands in the note, so that images change no answer.
 
 use host::json::{self, Value};
 use host::second::{self, ReadAnswer, RenderAnswer, ResolveAnswer, DEFINITION_ROW_WIDTH};
@@ -19,6 +19,9 @@ const SHEET: f64 = 1.0;
 const RELEASE: f64 = 8.0;
 /// The request that made folding go past Z.
 const FOLDING: f64 = 3.0;
+/// The request that added images, and what opens one.
+const IMAGES: f64 = 5.0;
+const OPENING: &[u8] = b"![";
 /// The older cases whose answers it changes, and what each is now, read off its texts: a label is found, another
 /// reference has a row, definitions conflict.
 const CHANGED: [(&str, u32, usize); 7] = [
@@ -81,13 +84,16 @@ fn case(value: &Value) -> Case {
     assert!(in_force.iter().all(known), "{value:?}");
     let release = value.get("release") == Some(&Value::Bool(true));
     assert!(in_force.contains(&RELEASE) || !release, "{value:?}");
+    let note = bytes(value, "note_hex");
+    let may_have_images = note.windows(2).any(|two| two == OPENING);
+    assert!(in_force.contains(&IMAGES) || !may_have_images, "{value:?}");
     let (asked, wanted) = asked_and_wanted(value, !in_force.contains(&SHEET));
     let id = string(value, "id");
     Case {
         name: format!("{id} {}", string(value, "what")),
         id,
         folds: in_force.contains(&FOLDING),
-        note: bytes(value, "note_hex"),
+        note,
         sheet: bytes(value, "sheet_hex"),
         release,
         asked,
@@ -314,14 +320,15 @@ fn answers_as_wanted() {
     cases.iter().for_each(Case::check);
     let count = |of: fn(&Asked) -> bool| cases.iter().filter(|case| of(&case.asked)).count();
     // Of request 4: 5 pages. Of request 9: 12 and 28. Of request 1: 19, 43 and 54 enquiries. Of request 8:
-    // 16 and 44, of which 38 are for a release. Of request 3: 13, 51 and 69, and 29 for a release.
+    // 16 and 44, of which 38 are for a release. Of request 3: 13, 51 and 69, and 29 for a release. Of request 5:
+    // 49 pages.
     assert_eq!(
         count(|asked| matches!(asked, Asked::Read(..))),
         12 + 19 + 16 + 13
     );
     assert_eq!(
         count(|asked| matches!(asked, Asked::Page(..))),
-        5 + 28 + 43 + 44 + 51
+        5 + 28 + 43 + 44 + 51 + 49
     );
     assert_eq!(count(|asked| matches!(asked, Asked::Enquiry(..))), 54 + 69);
     assert_eq!(cases.iter().filter(|case| case.release).count(), 38 + 29);

@@ -12,8 +12,8 @@ use host::generate::bench_notes;
 use host::generate::long_labels::{self, Letters};
 use host::second::{DEFINITION_ROW_WIDTH, LONGEST_LABEL, LONGEST_NOTE, SPAN_ROW_WIDTH};
 
-/// What `include/notice.h` promises for a call.
-const PROMISED: usize = 52 * 1024;
+/// What `include/notice.h` promises for a call of the reader, the page writer, the enquiry and the comparison.
+const PROMISED: [usize; 4] = [52 * 1024, 120 * 1024, 52 * 1024, 52 * 1024];
 /// The table of folding: 1,328 entries of two bytes.
 const TABLE: usize = 2 * 1_328;
 /// The memory of a stack, which has room for more than the promise.
@@ -142,10 +142,9 @@ fn a_call_keeps_to_the_promised_stack() {
         "reader {}, page writer {}, enquiry {}, comparison {}",
         most[0], most[1], most[2], most[3]
     );
-    assert!(
-        most.iter().all(|bytes| (1..PROMISED).contains(bytes)),
-        "{most:?}"
-    );
+    let kept = most.iter().zip(PROMISED);
+    let kept = kept.filter(|(bytes, promised)| (1..*promised).contains(bytes));
+    assert_eq!(kept.count(), most.len(), "{most:?}");
     // No form of a label is built: beside the table there is no room for the longest.
     assert!(
         most[2..].iter().all(|bytes| *bytes < TABLE + LONGEST_LABEL),

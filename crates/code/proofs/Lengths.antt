@@ -2,6 +2,7 @@
 use Prim.Native.Nat.{ℕ, _+_, _*_, _≤_}
 use native.Mathlib.Omega.{arith}
 use mathlib.Core.List.{List}
+use mathlib.Core.Bool.{Bool, true, false}
 use lib.ListN.{length, length-append, length-map, length-take, length-drop}
 use Rattle.escaping.specs.Escaping.{escaped}
 use Rattle.escaping.proofs.Lengths.{escaped-most, each-most}
@@ -14,5 +15,6 @@ content-most l = simp (length-map, length-take, length-drop) (omega arith)
 pub code-most : (l : List ℕ) → length (codeOf l) ≤ 6 * length l
 code-most l = omega (arith, each-most escaped escaped-most (codeContent l), content-most l)
 
-pub code-span-most : (l : List ℕ) → length (codeElement l) ≤ 13 + 6 * length l
-code-span-most l = omega (arith, code-most l, length-append (codeOf l) codeClose)
+pub code-span-most : (tags : Bool) (l : List ℕ) → length (codeElement tags l) ≤ 13 + 6 * length l
+code-span-most true l = omega (arith, code-most l, length-append (codeOf l) codeClose)
+code-span-most false l = omega (arith, code-most l)

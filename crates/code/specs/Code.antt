@@ -2,7 +2,7 @@
 use Prim.Native.Nat.{ℕ}
 use mathlib.Core.Path.{_≡_}
 use mathlib.Core.List.{List, [], _∷_, _++_, map, flatMap}
-use mathlib.Core.Bool.{Bool, false, cond}
+use mathlib.Core.Bool.{Bool, true, false, cond}
 use lib.Dec.{eqb}
 use Rattle.scan.specs.Ascii.{ascii}
 use Rattle.scan.specs.Every.{Every}
@@ -33,6 +33,7 @@ codeOpen = ascii "<code>"
 abbrev pub codeClose : List ℕ
 codeClose = ascii "</code>"
 
--- the bytes l between the backtick strings, as they stand on the page
-pub data CodeElement : List ℕ → List ℕ → Type 0 where
-  code : {l m : List ℕ} → Code l m → CodeElement l (codeOpen ++ flatMap escaped m ++ codeClose)
+-- the bytes l between the backtick strings, as they stand on the page: with tags, or without, as in an image's description
+pub data CodeElement : Bool → List ℕ → List ℕ → Type 0 where
+  code : {l m : List ℕ} → Code l m → CodeElement true l (codeOpen ++ flatMap escaped m ++ codeClose)
+  content : {l m : List ℕ} → Code l m → CodeElement false l (flatMap escaped m)

@@ -1,7 +1,7 @@
 -- A code span on the page, as it is computed.
 use Prim.Native.Nat.{ℕ, _-_}
 use mathlib.Core.List.{List, _++_, map, flatMap}
-use mathlib.Core.Bool.{Bool, cond, _&&_, _||_}
+use mathlib.Core.Bool.{Bool, true, false, cond, _&&_, _||_}
 use lib.ListN.{length, getD, take, drop}
 use lib.Dec.{eqb, ltb}
 use Rattle.scan.specs.Reading.{run}
@@ -23,5 +23,7 @@ codeContent l = map feedAsSpace (take (length l - margin l - margin l) (drop (ma
 abbrev pub codeOf : List ℕ → List ℕ
 codeOf l = flatMap escaped (codeContent l)
 
-abbrev pub codeElement : List ℕ → List ℕ
-codeElement l = codeOpen ++ codeOf l ++ codeClose
+-- with tags, or without
+abbrev pub codeElement : Bool → List ℕ → List ℕ
+codeElement true l = codeOpen ++ codeOf l ++ codeClose
+codeElement false l = codeOf l

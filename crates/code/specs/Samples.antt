@@ -1,7 +1,7 @@
 -- Code spans as they stand on the page, by computation.
 use mathlib.Core.Path.{_≡_, refl}
 use mathlib.Core.List.{List, [], _∷_, flatMap}
-use mathlib.Core.Bool.{true}
+use mathlib.Core.Bool.{true, false}
 use Rattle.scan.specs.Reading.{run}
 use Rattle.escaping.specs.Escaping.{escaped}
 use Rattle.escaping.specs.Samples.{Sample, _⇒_, hold}
@@ -24,6 +24,14 @@ codes =
     ∷ ("\\*<&" ⇒ "<code>\\*&lt;&amp;</code>")
     ∷ []
 
-pub codes-hold : hold codeElement codes ≡ true
+pub codes-hold : hold (codeElement true) codes ≡ true
 unfolding flatMap escaped run margin
 codes-hold = refl
+
+-- in an image's description
+abbrev pub contents : List Sample
+contents = ("foo" ⇒ "foo") ∷ (" foo\nbar " ⇒ "foo bar") ∷ ("\\*<&" ⇒ "\\*&lt;&amp;") ∷ []
+
+pub contents-hold : hold (codeElement false) contents ≡ true
+unfolding flatMap escaped run margin
+contents-hold = refl

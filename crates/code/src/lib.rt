@@ -83,11 +83,14 @@ pub fn put_code(page: &mut [u8], n: usize, s: &[u8]) -> usize
     put_code_bytes(page, n, &s[from..to])
 }
 
-// A code span with its tags.
-pub fn put_code_span(page: &mut [u8], n: usize, s: &[u8]) -> usize
-    requires { ⌜ n + length (codeElement (now s)) ≤ pageMost ⌝ }
-    ensures { λ r. ⌜ Writes (now (page .entry)) n (codeElement (now (s .entry))) (now (page .exit)) r ⌝ }
+// A code span, with its tags or without.
+pub fn put_code_span(page: &mut [u8], n: usize, tags: bool, s: &[u8]) -> usize
+    requires { ⌜ n + length (codeElement tags (now s)) ≤ pageMost ⌝ }
+    ensures { λ r. ⌜ Writes (now (page .entry)) n (codeElement tags (now (s .entry))) (now (page .exit)) r ⌝ }
 {
+    if !tags {
+        return put_code(page, n, s);
+    }
     let mut k = put(page, n, b"<code>");
     k = put_code(page, k, s);
     put(page, k, b"</code>")

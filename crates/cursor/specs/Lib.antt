@@ -1,2 +1,3 @@
 pub mod Spanned
 pub mod Cursor
+pub mod Starts

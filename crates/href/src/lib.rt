@@ -1,4 +1,4 @@
-// The destination of a link in its href.
+// The destination of a link in its href, and that of an image in its src.
 ghost use mathlib.Core.Path.{_≡_};
 ghost use lib.ListN.{length};
 ghost use Prim.Native.Nat.{_+_, _≤_, _<_};

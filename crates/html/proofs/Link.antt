@@ -1,4 +1,4 @@
--- The title attribute and the opening tag of a link.
+-- The title attribute, the opening tag of a link and the tag of an image.
 use Prim.Native.Nat.{ℕ, _+_}
 use native.Mathlib.Omega.{arith}
 use mathlib.Core.Path.{_≡_, refl}
@@ -7,7 +7,7 @@ use lib.ListN.{length, length-append}
 use Rattle.scan.specs.Ascii.{ascii}
 use Rattle.escaping.specs.Reading.{textOf}
 use Rattle.href.specs.Reading.{hrefOf}
-use Rattle.html.specs.Reading.{titleAttribute, linkOpen}
+use Rattle.html.specs.Reading.{titleAttribute, linkOpen, imageOpen, imageClose}
 
 pub no-title : (l : List ℕ) → length l ≡ 0 → titleAttribute l ≡ []
 unfolding titleAttribute
@@ -25,3 +25,11 @@ some-title-length l n = rw (some-title l n) (omega (arith, length-append (textOf
 pub open-length : (d t : List ℕ) → length (linkOpen d t) ≡ 11 + length (hrefOf d) + length (titleAttribute t)
 unfolding linkOpen
 open-length d t = simp length-append (omega arith)
+
+pub image-open-length : (d : List ℕ) → length (imageOpen d) ≡ 17 + length (hrefOf d)
+unfolding imageOpen
+image-open-length d = simp length-append (omega arith)
+
+pub image-close-length : (t : List ℕ) → length (imageClose t) ≡ 4 + length (titleAttribute t)
+unfolding imageClose
+image-close-length t = simp length-append (omega arith)

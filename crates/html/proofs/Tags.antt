@@ -1,4 +1,4 @@
--- The opening tag of a link is what the law says, and there is one.
+-- The opening tag of a link and the tag of an image are what the law says, and there is one of each.
 use Prim.Native.Nat.{ℕ}
 use mathlib.Core.Path.{_≡_, refl, ap, _∙_}
 use mathlib.Core.List.{List, [], _∷_, _++_}
@@ -8,8 +8,8 @@ use Rattle.escaping.specs.Reading.{textOf}
 use Rattle.escaping.proofs.Escapes.{text-iff}
 use Rattle.href.specs.Reading.{hrefOf}
 use Rattle.href.proofs.Href.{href-iff}
-use Rattle.html.specs.Tags.{TitleAttribute, empty, title, LinkOpen, link}
-use Rattle.html.specs.Reading.{titleAttribute, linkOpen}
+use Rattle.html.specs.Tags.{TitleAttribute, empty, title, LinkOpen, link, ImageOpen, image, ImageClose, image-end}
+use Rattle.html.specs.Reading.{titleAttribute, linkOpen, imageOpen, imageClose}
 
 title-complete : {t w : List ℕ} → TitleAttribute t w → titleAttribute t ≡ w
 unfolding titleAttribute
@@ -36,3 +36,25 @@ link-sound d t = link (href-iff d (hrefOf d) .1 refl) (title-sound t)
 
 pub link-open-iff : (d t w : List ℕ) → LinkOpen d t w ↔ (linkOpen d t ≡ w)
 link-open-iff d t w = (link-complete, (λ e. rw e at (link-sound d t)))
+
+image-open-complete : {d w : List ℕ} → ImageOpen d w → imageOpen d ≡ w
+unfolding imageOpen
+image-open-complete (image {d} {h} p) = ap (λ (x : List ℕ). ascii "<img src=\"" ++ x ++ ascii "\" alt=\"") (href-iff d h .0 p)
+
+image-open-sound : (d : List ℕ) → ImageOpen d (imageOpen d)
+unfolding imageOpen
+image-open-sound d = image (href-iff d (hrefOf d) .1 refl)
+
+pub image-open-iff : (d w : List ℕ) → ImageOpen d w ↔ (imageOpen d ≡ w)
+image-open-iff d w = (image-open-complete, (λ e. rw e at (image-open-sound d)))
+
+image-close-complete : {t w : List ℕ} → ImageClose t w → imageClose t ≡ w
+unfolding imageClose
+image-close-complete (image-end q) = ap (λ (x : List ℕ). ascii "\"" ++ x ++ ascii " />") (title-complete q)
+
+image-close-sound : (t : List ℕ) → ImageClose t (imageClose t)
+unfolding imageClose
+image-close-sound t = image-end (title-sound t)
+
+pub image-close-iff : (t w : List ℕ) → ImageClose t w ↔ (imageClose t ≡ w)
+image-close-iff t w = (image-close-complete, (λ e. rw e at (image-close-sound t)))

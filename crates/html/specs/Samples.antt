@@ -1,14 +1,14 @@
--- Opening tags of links, by computation.
+-- Opening tags of links, and tags of images, by computation.
 use Prim.Native.String.{String}
 use mathlib.Core.Path.{_≡_, refl}
-use mathlib.Core.List.{List, [], _∷_, flatMap}
+use mathlib.Core.List.{List, [], _∷_, _++_, flatMap}
 use mathlib.Core.Bool.{Bool, true, _&&_}
 use Rattle.scan.specs.Ascii.{ascii}
 use Rattle.escaping.specs.Escaping.{escaped}
 use Rattle.escaping.specs.Reading.{undone}
 use Rattle.escaping.specs.Samples.{same}
 use Rattle.href.specs.Href.{stays, hexDigit, hrefByte}
-use Rattle.html.specs.Reading.{titleAttribute, linkOpen}
+use Rattle.html.specs.Reading.{titleAttribute, linkOpen, imageOpen, imageClose}
 
 -- a destination, a title, and the tag
 pub record Opening : Type 0 where
@@ -31,3 +31,18 @@ holdOpenings (o ∷ more) = same (linkOpen (ascii (o .destination)) (ascii (o .t
 pub openings-hold : holdOpenings openings ≡ true
 unfolding undone flatMap escaped stays hexDigit hrefByte titleAttribute linkOpen
 openings-hold = refl
+
+-- images with the description `a`
+abbrev pub pictures : List Opening
+pictures =
+    record { destination = "/q2/max.png"; title = "June"; page = "<img src=\"/q2/max.png\" alt=\"a\" title=\"June\" />" }
+    ∷ record { destination = "a b"; title = ""; page = "<img src=\"a%20b\" alt=\"a\" />" }
+    ∷ []
+
+abbrev holdPictures : List Opening → Bool
+holdPictures [] = true
+holdPictures (o ∷ more) = same (imageOpen (ascii (o .destination)) ++ ascii "a" ++ imageClose (ascii (o .title))) (ascii (o .page)) && holdPictures more
+
+pub pictures-hold : holdPictures pictures ≡ true
+unfolding undone flatMap escaped stays hexDigit hrefByte titleAttribute imageOpen imageClose
+pictures-hold = refl

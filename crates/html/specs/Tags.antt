@@ -1,4 +1,4 @@
--- The tags of paragraphs and links.
+-- The tags of paragraphs, links and images.
 use Prim.Native.Nat.{ℕ}
 use mathlib.Core.List.{List, [], _∷_, _++_}
 use Rattle.scan.specs.Ascii.{ascii}
@@ -24,3 +24,11 @@ pub data TitleAttribute : List ℕ → List ℕ → Type 0 where
 -- "`<a href="D" title="T">`"
 pub data LinkOpen : List ℕ → List ℕ → List ℕ → Type 0 where
   link : {d h t a : List ℕ} → Href d h → TitleAttribute t a → LinkOpen d t (ascii "<a href=\"" ++ h ++ ascii "\"" ++ a ++ ascii ">")
+
+-- "`<img src="D" alt="A" title="T" />`", where A is written between the two: up to A, with D "as for links"
+pub data ImageOpen : List ℕ → List ℕ → Type 0 where
+  image : {d h : List ℕ} → Href d h → ImageOpen d (ascii "<img src=\"" ++ h ++ ascii "\" alt=\"")
+
+-- and after it, "with titles as for links"
+pub data ImageClose : List ℕ → List ℕ → Type 0 where
+  image-end : {t a : List ℕ} → TitleAttribute t a → ImageClose t (ascii "\"" ++ a ++ ascii " />")

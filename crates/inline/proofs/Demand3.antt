@@ -7,7 +7,7 @@ use mathlib.Core.List.{List}
 use Rattle.marking.specs.Marking.{Marking, Meets}
 use Rattle.marking.specs.Spans.{Span, SpansAre}
 use Rattle.marking.specs.Open.{NeverOver, FirstOver}
-use Rattle.marking.specs.Claims.{ExactlyOne, OnePairAtMost, PairsNest, NoLinkHoldsALink, LinksApart, TailsOnlyAfterLinks}
+use Rattle.marking.specs.Claims.{ExactlyOne, OnePairAtMost, PairsNest, NoLinkHoldsALink, LinksApart, TakenAsOpened, TailsOnlyAfterTaken}
 use Rattle.marking.specs.Reading.{reading}
 use Rattle.marking.specs.ReadingSpans.{spans, over}
 use Rattle.marking.proofs.Demand3 as any
@@ -53,10 +53,14 @@ module _ (p : List ℕ) (labels : List (List ℕ)) where
     pub links-stand-apart : LinksApart m
     links-stand-apart = any.links-apart (rules p labels) m c
 
-    pub tails-only-after-links : TailsOnlyAfterLinks (rules p labels) m
-    tails-only-after-links = any.tails-only-after-links (rules p labels) m c
+    -- every link is a pair that `[` opens, every image one that `![` opens
+    pub taken-as-opened : TakenAsOpened m
+    taken-as-opened = any.taken-as-opened (rules p labels) m c
 
-    -- the spans that are read are its links and code spans, each once, and no others, in increasing order of end
+    pub tails-only-after-taken : TailsOnlyAfterTaken (rules p labels) m
+    tails-only-after-taken = any.tails-only-after-taken (rules p labels) m c
+
+    -- the spans that are read are its links, images and code spans, each once, and no others, in increasing order of end
     pub its-spans-are-read : SpansAre (rules p labels) m (spans (grammar p labels))
     its-spans-are-read = any.spans-of-any (rules p labels) (grammar p labels) (computes p labels) (sound p labels) m c
 

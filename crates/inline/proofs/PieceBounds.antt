@@ -13,11 +13,11 @@ use Rattle.scan.proofs.Scan.{peek-inside, Outcome, scan-holds, at-cons, run-yes
 use Rattle.scan.specs.Reading.{run}
 use Rattle.scan.specs.declared.Found.{Found}
 use Rattle.scan.specs.declared.Found.the-variants.{At, Nothing}
-use Rattle.marking.specs.Marking.{Kind, Piece, escape, code, plain, opens, closes, role, nothing, closing, trailing}
-use Rattle.marking.proofs.Roles.{nothing≢closing, nothing≢trailing, opening≢trailing, closing≢trailing}
-use Rattle.inline.specs.Pieces.{backtick}
+use Rattle.marking.specs.Marking.{Kind, Piece, link, image, escape, code, plain, opens, closes, role, closing, trailing}
+use Rattle.marking.proofs.Roles.{nothing≢closing, nothing≢trailing, opening≢closing, opening≢trailing, closing≢trailing}
+use Rattle.inline.specs.Pieces.{backtick, imageOpens}
 use Rattle.inline.specs.ReadingPieces.{Counted, runStep, runDone, closingRun, piece, spanOrText, kindOf, pieceFrom}
-use Rattle.inline.proofs.Turns.{from-escape, from-backticks, from-byte}
+use Rattle.inline.proofs.Turns.{from-escape, from-backticks, from-image, from-byte}
 
 -- ---- the run that closes a code span
 abbrev EndsIn : ℕ → ℕ → Found → Type 0
@@ -58,31 +58,32 @@ pub record Sized (p : List ℕ) (a : ℕ) (q : Piece) : Type 0 where
   pub no-tail : role (q .kind) ≢ trailing
   pub one-byte : role (q .kind) ≡ closing → q .end ≡ a + 1
 
-single-kind : (b c : Bool) → role (cond b opens (cond c closes plain)) ≢ trailing
+single-kind : (b c : Bool) → role (cond b (opens link) (cond c closes plain)) ≢ trailing
 single-kind true c = opening≢trailing
 single-kind false true = closing≢trailing
 single-kind false false = nothing≢trailing
 
 module _ (p : List ℕ) (a : ℕ) (h : a < length p) where
-  -- a piece that is neither bracket nor tail
-  quiet : (k : Kind) (e : ℕ) → role k ≡ nothing → a < e → e ≤ length p → Sized p a (piece k a e)
-  quiet k e r g w =
-      record {
-        starts = refl;
-        grows = g;
-        within = w;
-        no-tail = λ t. nothing≢trailing (sym r ∙ t);
-        one-byte = λ t. absurd (nothing≢closing (sym r ∙ t));
-      }
+  -- a piece that is neither closing bracket nor tail
+  other : (k : Kind) (e : ℕ) → role k ≢ closing → role k ≢ trailing → a < e → e ≤ length p → Sized p a (piece k a e)
+  other k e c t g w = record { starts = refl; grows = g; within = w; no-tail = t; one-byte = λ r. absurd (c r) }
+
+  -- two bytes stand there, of which the second passes a test
+  two-bytes : (test : ℕ → Bool) → test 0 ≡ false → (b : Bool) → (b && test (getD (drop a p) 1 0)) ≡ true → a + 2 ≤ length p
+  two-bytes test f b e =
+      let two = peek-inside (drop a p) 1 (λ z. true≢false (sym (and-right b (test (getD (drop a p) 1 0)) e) ∙ ap test z ∙ f)) in
+      omega (arith, length-drop a p)
 
   escape-sized : escapes (drop a p) ≡ true → Sized p a (piece escape a (a + 2))
-  escape-sized e =
-      let two = peek-inside (drop a p) 1 (λ z. true≢false (sym (and-right (eqb (getD (drop a p) 0 0) 92) _ e) ∙ ap punctuation z)) in
-      quiet escape (a + 2) refl (omega arith) (omega (arith, length-drop a p))
+  escape-sized e = other escape (a + 2) nothing≢closing nothing≢trailing (omega arith) (two-bytes punctuation refl (eqb (getD (drop a p) 0 0) 92) e)
+
+  image-sized : imageOpens (drop a p) ≡ true → Sized p a (piece (opens image) a (a + 2))
+  image-sized e =
+      other (opens image) (a + 2) opening≢closing opening≢trailing (omega arith) (two-bytes (λ b. eqb b 91) refl (eqb (getD (drop a p) 0 0) 33) e)
 
   ticked-sized : (n : ℕ) (f : Found) → 0 < n → a + n ≤ length p → EndsIn (a + n) (length p) f → Sized p a (spanOrText a (a + n) f)
-  ticked-sized n (At c) k l i = quiet code c refl (omega arith) (omega arith)
-  ticked-sized n Nothing k l i = quiet plain (a + n) refl (omega arith) l
+  ticked-sized n (At c) k l i = other code c nothing≢closing nothing≢trailing (omega arith) (omega arith)
+  ticked-sized n Nothing k l i = other plain (a + n) nothing≢closing nothing≢trailing (omega arith) l
 
   byte-sized : Sized p a (piece (kindOf (getD p a 0)) a (a + 1))
   byte-sized = record { starts = refl; grows = omega arith; within = omega arith; no-tail = single-kind (eqb (getD p a 0) 91) (eqb (getD p a 0) 93); one-byte = λ t. refl }
@@ -99,4 +100,4 @@ module _ (p : List ℕ) (a : ℕ) (h : a < length p) where
       let f : a + n ≤ length p = omega (arith, run-fits backtick (drop a p), length-drop a p) in
       let l : a + n + length (drop (a + n) p) ≡ length p = omega (arith, length-drop (a + n) p) in
       rw (from-backticks p a e t) (ticked-sized n (closingRun n (drop (a + n) p) (a + n)) (some-run t) f (rw l at (closingRun-ends n (drop (a + n) p) (a + n)))))
-      (λ t. rw (from-byte p a e t) byte-sized))
+      (λ t. by (imageOpens (drop a p)) (λ i. rw (from-image p a e t i) (image-sized i)) (λ i. rw (from-byte p a e t i) byte-sized)))

@@ -11,11 +11,11 @@ use Rattle.scan.proofs.Strides.{told-apart, past-through}
 use Rattle.inline.specs.ReadingPieces.{quiet}
 
 abbrev strided : ℕ → Bool
-strided b = clear 255 91 93 96 96 96 b
+strided b = clear 255 91 93 96 96 33 b
 
 stride-quiet : (b : ℕ) → strided b ≡ true → quiet b ≡ true
 stride-quiet b e =
-    simp (told-apart strided b 96 e refl, told-apart strided b 91 e refl, told-apart strided b 93 e refl, told-apart strided b 92 e refl)
+    simp (told-apart strided b 96 e refl, told-apart strided b 91 e refl, told-apart strided b 93 e refl, told-apart strided b 92 e refl, told-apart strided b 33 e refl)
 
 pub plain-strides : (s : List ℕ) (at : ℕ) {i : ℕ} → i ≡ pastStrides strided s at → past quiet s i ≡ past quiet s at
 plain-strides = past-through strided quiet stride-quiet

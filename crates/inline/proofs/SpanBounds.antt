@@ -1,4 +1,4 @@
--- Where the spans of a marking stand: within the paragraph, the text within the span, an inline link's destination and title within its tail.
+-- Where the spans of a marking stand: within the paragraph, the text within the span, the destination and title of an inline link or image within its tail.
 use Prim.Native.Nat.{ℕ, zero, suc, _+_, _-_, _≤_}
 use native.Mathlib.Omega.{arith}
 use mathlib.Core.Path.{_≡_, refl, sym, ap, _∙_}
@@ -9,15 +9,15 @@ use lib.Dec.{eqb}
 use Rattle.scan.specs.Reading.{run}
 use Rattle.scan.proofs.Every.{run-iff}
 use Rattle.scan.proofs.Test.{by}
-use Rattle.marking.specs.Marking.{code, closing, role, Piece, Marking, At, Tiles, Paired, tailPiece, Meets}
-use Rattle.marking.specs.Spans.{Span, codeSpan, linkSpan, SpanOf, CodeOf, LinkOf}
+use Rattle.marking.specs.Marking.{Sort, code, closing, role, Piece, Marking, At, Tiles, Paired, tailPiece, HasTail, Meets}
+use Rattle.marking.specs.Spans.{Span, codeSpan, pairSpan, SpanOf, CodeOf, TakenOf}
 use Rattle.marking.proofs.Roles.{nothing≢trailing, closing≢trailing}
 use Rattle.marking.proofs.Tiles.{tiles-order}
-use Rattle.marking.proofs.Pairs.{link-pair}
+use Rattle.marking.proofs.Pairs.{taken-are, taken-pair}
 use Rattle.row.specs.declared.Definition.{Definition}
 use Rattle.row.specs.declared.Range.{Range}
 use Rattle.row.specs.Row.{range}
-use Rattle.inline.specs.Pieces.{backtick, Backticks, MaximalBackticks, Starts, an-escape, code-span, backticks, opening, closing as closes, other}
+use Rattle.inline.specs.Pieces.{backtick, Backticks, MaximalBackticks, Starts, an-escape, code-span, backticks, opening, image-opening, closing as closes, other}
 use Rattle.inline.proofs.PieceBounds.{sized}
 use Rattle.inline.specs.Tails.{Tail, inline, lengthOf, InlineFollows, empty, untitled, titled, TailOf, first, second, third, third-alone}
 use Rattle.inline.specs.ReadingTails.{moved}
@@ -56,8 +56,9 @@ between-strings p (code-span {a} {n} {b} r f) k =
 between-strings p (an-escape e) k = let z : _≡_ {A = ℕ} 0 1 = cc in absurd (omega arith)
 between-strings p (backticks r f) k = let z : _≡_ {A = ℕ} 0 1 = cc in absurd (omega arith)
 between-strings p (opening e) k = let z : _≡_ {A = ℕ} 0 1 = cc in absurd (omega arith)
+between-strings p (image-opening e) k = let z : _≡_ {A = ℕ} 0 1 = cc in absurd (omega arith)
 between-strings p (closes e) k = let z : _≡_ {A = ℕ} 0 1 = cc in absurd (omega arith)
-between-strings p (other h e m) k = let z : _≡_ {A = ℕ} 0 1 = cc in absurd (omega arith)
+between-strings p (other h e i m) k = let z : _≡_ {A = ℕ} 0 1 = cc in absurd (omega arith)
 
 pub record SpanWithin (p : List ℕ) (x : Span Tail) : Type 0 where
   pub text-from : wholeOf x .start ≤ textOf p x .start
@@ -76,20 +77,20 @@ module _ (p : List ℕ) (labels : List (List ℕ)) (m : Marking Tail) (c : Meets
       let e : run backtick (drop (q .start) p) ≡ b .count = run-iff backtick (drop (q .start) p) (b .count) .1 (b .opening-string .run) in
       record { text-from = omega arith; text-ordered = omega (arith, b .apart); text-to = omega arith; to = w .2 }
 
-  link-within : (o d : Piece) (t : Tail) → LinkOf m o d t → SpanWithin p (linkSpan o d t)
-  link-within o d t x =
-      let pair : Paired (m .pieces) (x .from) (x .to) = link-pair c (x .from) (x .to) t (x .linked) in
-      let w = tiles-order 0 (length p) (m .pieces) (x .from) (x .to) o d (c .tiled) (x .open-at) (x .close-at) (pair .before) in
-      let v = piece-within 0 (length p) (m .pieces) (x .to) d (c .tiled) (x .close-at) in
-      let tail-at : At (m .pieces) (suc (x .to)) (tailPiece d (lengthOf t)) = c .tails (x .from) (x .to) t d (x .linked) (x .close-at) in
-      let u = piece-within 0 (length p) (m .pieces) (suc (x .to)) (tailPiece d (lengthOf t)) (c .tiled) tail-at in
-      record { text-from = w .0; text-ordered = w .1; text-to = omega arith; to = u .2 }
+  pair-within : (x : Sort) (o d : Piece) (t : Tail) → TakenOf m x o d t → SpanWithin p (pairSpan x o d t)
+  pair-within x o d t l =
+      let pair : Paired (m .pieces) (l .from) (l .to) = taken-pair c x (l .from) (l .to) t (l .taken) in
+      let w = tiles-order 0 (length p) (m .pieces) (l .from) (l .to) o d (c .tiled) (l .open-at) (l .close-at) (pair .before) in
+      let v = piece-within 0 (length p) (m .pieces) (l .to) d (c .tiled) (l .close-at) in
+      let tail-at : At (m .pieces) (suc (l .to)) (tailPiece d (lengthOf t)) = c .tails x (l .from) (l .to) t d (l .taken) (l .close-at) in
+      let u = piece-within 0 (length p) (m .pieces) (suc (l .to)) (tailPiece d (lengthOf t)) (c .tiled) tail-at in
+      record { text-from = omega (arith, w .0); text-ordered = w .1; text-to = omega arith; to = u .2 }
 
   pub span-within : (x : Span Tail) → SpanOf m x → SpanWithin p x
   span-within (codeSpan q) s = code-within q s
-  span-within (linkSpan o d t) s = link-within o d t s
+  span-within (pairSpan x o d t) s = pair-within x o d t s
 
--- ---- the destination and the title of an inline link
+-- ---- the destination and the title of an inline link or image
 moved-between : (at n : ℕ) (r : Range) → PartIn r n → PartBetween at (at + n) (moved at r)
 moved-between at n r i = by (eqb (r .start) 0) (λ e. rw e tt) (λ e. rw e (omega arith, omega (arith, i .ordered), omega (arith, i .inside)))
 
@@ -119,36 +120,36 @@ inline-only (third a b l f k) e = let z : _≡_ {A = ℕ} 0 1 = cc in absurd (om
 inline-only (third-alone a b l f k) e = let z : _≡_ {A = ℕ} 0 1 = cc in absurd (omega arith)
 
 module _ (p : List ℕ) (labels : List (List ℕ)) (m : Marking Tail) (c : Meets (rules p labels) m) where
-  -- the closing piece of a link is one byte
+  -- a closing piece is one byte
   close-end : (x : Piece) (j : ℕ) → At (m .pieces) j x → role (x .kind) ≡ closing → x .end ≡ x .start + 1
   close-end x j a k =
       let f = starts-iff p x .0 (c .kinds j x a (λ t. closing≢trailing (sym k ∙ t))) in
       ap (λ (y : Piece). y .end) (sym (f .from)) ∙ sized p (x .start) (f .inside) .one-byte (ap (λ (y : Piece). role (y .kind)) (f .from) ∙ k)
 
   -- they lie within its tail
-  pub inline-parts-within : (o x : Piece) (n : ℕ) (d t : Option Range) → LinkOf m o x (inline n d t)
-      → PartBetween (x .end) (x .end + n) d × PartBetween (x .end) (x .end + n) t
-  inline-parts-within o x n d t l =
-      let k = c .links-are (l .from) (l .to) (inline n d t) .0 (l .linked) .has-tail in
-      let pair : Paired (m .pieces) (l .from) (l .to) = link-pair c (l .from) (l .to) (inline n d t) (l .linked) in
-      let ex : pair .closed .piece ≡ x = Option·some-injective (pair .closed .piece) x (sym (pair .closed .at) ∙ l .close-at) in
-      let ek : k .close-piece ≡ x = Option·some-injective (k .close-piece) x (sym (k .close-at) ∙ l .close-at) in
-      let end : x .end ≡ x .start + 1 = close-end x (l .to) (l .close-at) (ap (λ (y : Piece). role (y .kind)) (sym ex) ∙ pair .closed .as-role) in
+  pub inline-parts-within : (x : Sort) (o q : Piece) (n : ℕ) (d t : Option Range) → TakenOf m x o q (inline n d t)
+      → PartBetween (q .end) (q .end + n) d × PartBetween (q .end) (q .end + n) t
+  inline-parts-within x o q n d t l =
+      let k : HasTail (rules p labels) x (m .pieces) (l .from) (l .to) (inline n d t) = taken-are c x (l .from) (l .to) (inline n d t) .0 (l .taken) .has-tail in
+      let pair : Paired (m .pieces) (l .from) (l .to) = taken-pair c x (l .from) (l .to) (inline n d t) (l .taken) in
+      let eq : pair .closed .piece ≡ q = Option·some-injective (pair .closed .piece) q (sym (pair .closed .at) ∙ l .close-at) in
+      let ek : k .close-piece ≡ q = Option·some-injective (k .close-piece) q (sym (k .close-at) ∙ l .close-at) in
+      let end : q .end ≡ q .start + 1 = close-end q (l .to) (l .close-at) (ap (λ (y : Piece). role (y .kind)) (sym eq) ∙ pair .closed .as-role) in
       let r : ReadAs (drop (k .close-piece .start + 1) p) (k .close-piece .start + 1) (inline n d t) = inline-read _ _ (inline-only (k .reads) refl) in
       rw (end, ← ek) (read-between (drop (k .close-piece .start + 1) p) (k .close-piece .start + 1) n d t r)
 
 -- ---- the definition of a reference
-tail-defined : {labels : List (List ℕ)} {text s : List ℕ} {at : ℕ} {t : Tail} (offset : ℕ) (ds : List Definition) (o x : Piece) → TailOf labels text s at t
-    → targetOf offset ds (linkSpan o x t) .number ≤ length labels
-tail-defined offset ds o x (first (empty b r i j)) = omega arith
-tail-defined offset ds o x (first (untitled b c m r n i j k)) = omega arith
-tail-defined offset ds o x (first (titled b c m q c′ a r n i j k l y)) = omega arith
-tail-defined offset ds o x (second l a b f) = omega (arith, f .within)
-tail-defined offset ds o x (third a b l f k) = omega (arith, f .within)
-tail-defined offset ds o x (third-alone a b l f k) = omega (arith, f .within)
+tail-defined : {labels : List (List ℕ)} {text s : List ℕ} {at : ℕ} {t : Tail} (offset : ℕ) (ds : List Definition) (x : Sort) (o q : Piece) → TailOf labels text s at t
+    → targetOf offset ds (pairSpan x o q t) .number ≤ length labels
+tail-defined offset ds x o q (first (empty b r i j)) = omega arith
+tail-defined offset ds x o q (first (untitled b c m r n i j k)) = omega arith
+tail-defined offset ds x o q (first (titled b c m u c′ a r n i j k l y)) = omega arith
+tail-defined offset ds x o q (second l a b f) = omega (arith, f .within)
+tail-defined offset ds x o q (third a b l f k) = omega (arith, f .within)
+tail-defined offset ds x o q (third-alone a b l f k) = omega (arith, f .within)
 
 -- there is a definition of the number that a row gives
 pub number-defined : (p : List ℕ) (labels : List (List ℕ)) (m : Marking Tail) → Meets (rules p labels) m → (offset : ℕ) (ds : List Definition) (x : Span Tail) → SpanOf m x
     → targetOf offset ds x .number ≤ length labels
 number-defined p labels m c offset ds (codeSpan q) s = omega arith
-number-defined p labels m c offset ds (linkSpan o x t) l = tail-defined offset ds o x (c .links-are (l .from) (l .to) t .0 (l .linked) .has-tail .reads)
+number-defined p labels m c offset ds (pairSpan x o q t) l = tail-defined offset ds x o q (taken-are c x (l .from) (l .to) t .0 (l .taken) .has-tail .reads)

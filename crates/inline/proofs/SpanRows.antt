@@ -8,8 +8,8 @@ use mathlib.Core.List.{List, [], _∷_, map, Forall₂, Forall₂·nil, Forall�
 use lib.ListN.{length, drop, getElem?}
 use Rattle.scan.specs.Reading.{run}
 use Rattle.scan.proofs.Every.{run-iff}
-use Rattle.marking.specs.Marking.{Piece, Marking, Meets}
-use Rattle.marking.specs.Spans.{Span, codeSpan, linkSpan, SpanOf, spanEnd, EndsBefore, SpansAre}
+use Rattle.marking.specs.Marking.{link, image, Piece, Marking, Meets}
+use Rattle.marking.specs.Spans.{Span, codeSpan, pairSpan, SpanOf, spanEnd, EndsBefore, SpansAre}
 use Rattle.marking.specs.ReadingSpans.{spans}
 use Rattle.row.specs.declared.Range.{Range}
 use Rattle.row.specs.declared.Definition.{Definition}
@@ -18,7 +18,7 @@ use Rattle.inline.specs.Pieces.{backtick}
 use Rattle.inline.specs.Tails.{Tail, inline, full, collapsed, shortcut}
 use Rattle.inline.specs.Paragraph.{rules}
 use Rattle.inline.specs.Reading.{grammar}
-use Rattle.inline.specs.Rows.{wholeOf, CodeText, fromNote, RowIs, code-span, inline-link, full-reference, collapsed-reference, shortcut-reference, RowsAre, EndsIncrease}
+use Rattle.inline.specs.Rows.{wholeOf, CodeText, fromNote, RowIs, code-span, inline-one, full-reference, collapsed-reference, shortcut-reference, RowsAre, EndsIncrease}
 use Rattle.inline.specs.Claims.{RowWithin}
 use Rattle.inline.specs.ReadingRows.{textOf, spanRow, spanRows}
 use Rattle.inline.proofs.Demand3.{the-marking, the-marking-meets, its-spans-are-read, no-other-span-list}
@@ -44,10 +44,10 @@ code-text-read p q text t =
 
 pub row-read : (s : List ℕ) (offset : ℕ) (p : List ℕ) (ds : List Definition) {x : Span Tail} {row : List ℕ} → RowIs s offset p ds x row → spanRow s offset p ds x ≡ row
 row-read s offset p ds (code-span {q} {text} t) = ap (λ (r : Range). numbers s (codeSpanRow (fromNote offset (wholeOf (codeSpan q))) (fromNote offset r))) (code-text-read p q text t)
-row-read s offset p ds inline-link = refl
-row-read s offset p ds full-reference = refl
-row-read s offset p ds collapsed-reference = refl
-row-read s offset p ds shortcut-reference = refl
+row-read s offset p ds (inline-one {x = x}) = elim x [ link ↦ refl | image ↦ refl ]
+row-read s offset p ds (full-reference {x = x}) = elim x [ link ↦ refl | image ↦ refl ]
+row-read s offset p ds (collapsed-reference {x = x}) = elim x [ link ↦ refl | image ↦ refl ]
+row-read s offset p ds (shortcut-reference {x = x}) = elim x [ link ↦ refl | image ↦ refl ]
 
 rows-read : (s : List ℕ) (offset : ℕ) (p : List ℕ) (ds : List Definition) {xs : List (Span Tail)} {rows : List (List ℕ)} → Forall₂ (RowIs s offset p ds) xs rows
     → rows ≡ map (spanRow s offset p ds) xs
@@ -62,12 +62,15 @@ module _ (p : List ℕ) (labels : List (List ℕ)) (m : Marking Tail) (c : Meets
       rw (b .text-is) (record { count = b .count; opening-string = b .opening-string; from = refl; to = omega (arith, b .apart) })
 
   module _ (s : List ℕ) (offset : ℕ) (ds : List Definition) where
+    as-read : {x : Span Tail} {row : List ℕ} → RowIs s offset p ds x row → RowIs s offset p ds x (spanRow s offset p ds x)
+    as-read {x} r = subst (RowIs s offset p ds x) (sym (row-read s offset p ds r)) r
+
     row-made : (x : Span Tail) → SpanOf m x → RowIs s offset p ds x (spanRow s offset p ds x)
     row-made (codeSpan q) o = code-span (code-text-is q o)
-    row-made (linkSpan o d (inline n a b)) l = inline-link
-    row-made (linkSpan o d (full n k)) l = full-reference
-    row-made (linkSpan o d (collapsed k)) l = collapsed-reference
-    row-made (linkSpan o d (shortcut k)) l = shortcut-reference
+    row-made (pairSpan x o d (inline n a b)) l = as-read inline-one
+    row-made (pairSpan x o d (full n k)) l = as-read full-reference
+    row-made (pairSpan x o d (collapsed k)) l = as-read collapsed-reference
+    row-made (pairSpan x o d (shortcut k)) l = as-read shortcut-reference
 
     -- for the spans of a marking that meets the conditions the two say the same
     pub row-iff : (x : Span Tail) → SpanOf m x → (row : List ℕ) → RowIs s offset p ds x row ↔ (spanRow s offset p ds x ≡ row)
@@ -92,7 +95,7 @@ module _ (s : List ℕ) (offset : ℕ) (p : List ℕ) (labels : List (List ℕ))
 
   end-is : (x : Span Tail) → spanEnd (rules p labels) x ≡ wholeOf x .end
   end-is (codeSpan q) = refl
-  end-is (linkSpan o c t) = refl
+  end-is (pairSpan x o c t) = refl
 
   pub ends-increase : EndsIncrease (spanRows s offset p labels ds)
   ends-increase k x y h h′ =

@@ -1,7 +1,7 @@
 -- The ways through a turn of the loop over backticks, each premise a fact that the code has there; and one equation for each kind of start of a piece.
 use Prim.Native.Nat.{ℕ, _+_, _≤_}
 use native.Mathlib.Omega.{arith}
-use mathlib.Core.Path.{_≡_}
+use mathlib.Core.Path.{_≡_, _∙_}
 use mathlib.Core.List.{List}
 use mathlib.Core.Bool.{true, false, not, _&&_}
 use borrow.Author.Tests.{eq-eqb, ne-eqb}
@@ -11,9 +11,9 @@ use Rattle.scan.specs.Byte.{escapes}
 use Rattle.scan.specs.Reading.{stop, next, run}
 use Rattle.scan.specs.declared.Found.the-variants.{At, Nothing}
 use Rattle.scan.proofs.Test.{by}
-use Rattle.marking.specs.Marking.{escape}
-use Rattle.inline.specs.Pieces.{backtick}
-use Rattle.inline.specs.ReadingPieces.{Counted, countAfter, runStep, runDone, piece, ticked, kindOf, pieceFrom}
+use Rattle.marking.specs.Marking.{image, opens, escape}
+use Rattle.inline.specs.Pieces.{backtick, imageOpens}
+use Rattle.inline.specs.ReadingPieces.{Counted, countAfter, runStep, runDone, piece, ticked, kindOf, bracketOrText, pieceFrom}
 
 module _ (n : ℕ) where
   module _ (t : Counted) (b : ℕ) (s : List ℕ) where
@@ -49,6 +49,13 @@ module _ (p : List ℕ) (a : ℕ) where
   unfolding pieceFrom
   from-backticks e t = rw (pieceFrom, e, t)
 
-  pub from-byte : escapes (drop a p) ≡ false → backtick (getD p a 0) ≡ false → pieceFrom p a ≡ piece (kindOf (getD p a 0)) a (a + 1)
-  unfolding pieceFrom
-  from-byte e t = rw (pieceFrom, e, t)
+  module _ (e : escapes (drop a p) ≡ false) (t : backtick (getD p a 0) ≡ false) where
+    from-rest : pieceFrom p a ≡ bracketOrText p a
+    unfolding pieceFrom
+    from-rest = rw (pieceFrom, e, t)
+
+    pub from-image : imageOpens (drop a p) ≡ true → pieceFrom p a ≡ piece (opens image) a (a + 2)
+    from-image i = from-rest ∙ rw i
+
+    pub from-byte : imageOpens (drop a p) ≡ false → pieceFrom p a ≡ piece (kindOf (getD p a 0)) a (a + 1)
+    from-byte i = from-rest ∙ rw i

@@ -8,8 +8,8 @@ use Rattle.scan.specs.Byte.{escapes}
 use Rattle.scan.specs.Reading.{Step, stop, next, scan, run}
 use Rattle.scan.specs.declared.Found.{Found}
 use Rattle.scan.specs.declared.Found.the-variants.{At, Nothing}
-use Rattle.marking.specs.Marking.{Kind, Piece, escape, code, plain, opens, closes}
-use Rattle.inline.specs.Pieces.{backtick, marks}
+use Rattle.marking.specs.Marking.{Kind, Piece, link, image, escape, code, plain, opens, closes}
+use Rattle.inline.specs.Pieces.{backtick, imageOpens, marks}
 
 -- ---- where the run of backticks that closes a code span ends: one pass, with a count of the backticks just before the place
 -- a place, and how many backticks stand just before it
@@ -38,7 +38,7 @@ module _ (n : ℕ) where
 -- ---- the piece
 -- bytes that start a piece of plain text whatever stands after them
 abbrev pub quiet : ℕ → Bool
-quiet b = not (marks b || eqb b 92)
+quiet b = not (marks b || eqb b 92 || eqb b 33)
 
 abbrev pub piece : Kind → ℕ → ℕ → Piece
 piece k a e = record { kind = k; start = a; end = e }
@@ -51,13 +51,16 @@ spanOrText a e Nothing = piece plain a e
 abbrev pub ticked : List ℕ → ℕ → ℕ → Piece
 ticked p a n = spanOrText a (a + n) (closingRun n (drop (a + n) p) (a + n))
 
--- of a byte that starts neither an escape nor a run of backticks
+-- of a byte that starts neither an escape nor a run of backticks nor `![`
 abbrev pub kindOf : ℕ → Kind
-kindOf b = cond (eqb b 91) opens (cond (eqb b 93) closes plain)
+kindOf b = cond (eqb b 91) (opens link) (cond (eqb b 93) closes plain)
+
+abbrev pub bracketOrText : List ℕ → ℕ → Piece
+bracketOrText p a = cond (imageOpens (drop a p)) (piece (opens image) a (a + 2)) (piece (kindOf (getD p a 0)) a (a + 1))
 
 unfoldable pub pieceFrom : List ℕ → ℕ → Piece
 pieceFrom p a =
     elim (escapes (drop a p)) [
       | true ↦ piece escape a (a + 2)
-      | false ↦ elim (backtick (getD p a 0)) [ true ↦ ticked p a (run backtick (drop a p)) | false ↦ piece (kindOf (getD p a 0)) a (a + 1) ]
+      | false ↦ elim (backtick (getD p a 0)) [ true ↦ ticked p a (run backtick (drop a p)) | false ↦ bracketOrText p a ]
     ]

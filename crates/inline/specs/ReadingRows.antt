@@ -4,28 +4,37 @@ use mathlib.Core.List.{List, map}
 use lib.ListN.{drop}
 use Rattle.scan.specs.Reading.{run}
 use Rattle.marking.specs.Spans as marked
-use Rattle.marking.specs.Spans.{codeSpan, linkSpan}
+use Rattle.marking.specs.Marking.{Sort, link, image}
+use Rattle.marking.specs.Spans.{codeSpan, pairSpan}
 use Rattle.marking.specs.ReadingSpans.{spans}
 use Rattle.row.specs.declared.Range.{Range}
 use Rattle.row.specs.declared.Definition.{Definition}
 use Rattle.row.specs.Row.{range}
 use Rattle.span.specs.declared.Span.{Span}
-use Rattle.span.specs.Row.{span, numbers, codeSpanKind, inlineKind, fullKind, collapsedKind, shortcutKind}
+use Rattle.span.specs.Row.{span, numbers, codeSpanKind, inlineKind, fullKind, collapsedKind, shortcutKind, inlineImageKind, fullImageKind, collapsedImageKind, shortcutImageKind}
 use Rattle.inline.specs.Pieces.{backtick}
 use Rattle.inline.specs.Tails.{Tail, inline, full, collapsed, shortcut}
 use Rattle.inline.specs.Reading.{grammar}
 use Rattle.inline.specs.Rows.{Target, wholeOf, linkText, fromNote, targetOf}
 
+-- of a link or an image
+abbrev pub tailKind : Sort → Tail → ℕ
+tailKind link (inline n d t) = inlineKind
+tailKind link (full n k) = fullKind
+tailKind link (collapsed k) = collapsedKind
+tailKind link (shortcut k) = shortcutKind
+tailKind image (inline n d t) = inlineImageKind
+tailKind image (full n k) = fullImageKind
+tailKind image (collapsed k) = collapsedImageKind
+tailKind image (shortcut k) = shortcutImageKind
+
 abbrev pub kindNumber : marked.Span Tail → ℕ
 kindNumber (codeSpan q) = codeSpanKind
-kindNumber (linkSpan o c (inline n d t)) = inlineKind
-kindNumber (linkSpan o c (full n k)) = fullKind
-kindNumber (linkSpan o c (collapsed k)) = collapsedKind
-kindNumber (linkSpan o c (shortcut k)) = shortcutKind
+kindNumber (pairSpan x o c t) = tailKind x t
 
 abbrev pub textOf : List ℕ → marked.Span Tail → Range
 textOf p (codeSpan q) = let n = run backtick (drop (q .start) p) in range (q .start + n) (q .end - n)
-textOf p (linkSpan o c t) = linkText o c
+textOf p (pairSpan x o c t) = linkText o c
 
 -- a span of the paragraph p, which starts at place `offset` of the note s, and its row; ds are the definitions
 abbrev pub rowFor : ℕ → List ℕ → List Definition → marked.Span Tail → Span

@@ -17,22 +17,22 @@ pub enum InlineTail {
     Nothing,
 }
 
-// Whether `b` starts plain text: it is no bracket, backtick or backslash.
+// Whether `b` starts plain text whatever follows: it is no bracket, backtick, backslash or exclamation mark.
 fn is_quiet(b: u8) -> bool
     ensures { λ r. ⌜ r ≡ quiet b ⌝ }
 {
-    !((b == 96) | (b == 91) | (b == 93) | (b == 92))
+    !((b == 96) | (b == 91) | (b == 93) | (b == 92) | (b == 33))
 }
 
-// The first place from `at` on where a bracket, a backtick or a backslash stands; the end is one. Long plain text is passed by
-// strides, and none are tried where no plain text starts.
+// The first place from `at` on where a bracket, a backtick, a backslash or an exclamation mark stands; the end is one. Long plain text
+// is passed by strides, and none are tried where no plain text starts.
 pub fn plain_end(s: &[u8], at: usize) -> usize
     ensures { λ r. ⌜ r ≡ past quiet (now (s .entry)) at ⌝ }
 {
     if !is_quiet(scan::peek(s, at)) {
         return at;
     }
-    let mut i = scan::past_strides(s, at, 255, 91, 93, 96, 96, 96);
+    let mut i = scan::past_strides(s, at, 255, 91, 93, 96, 96, 33);
     while i < s.len() {
         if !is_quiet(s[i]) {
             return i;

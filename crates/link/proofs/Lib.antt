@@ -1,1 +1,1 @@
-pub mod LinkRows
+pub mod PairRows

@@ -7,15 +7,15 @@ use mathlib.Core.List.{List}
 use Prim.Native.Nat.{ℕ, suc, _<_}
 use native.Mathlib.Omega.{arith}
 use lib.ListN.{getElem?}
-use Rattle.marking.specs.Marking.{Piece, Rules, Marking, At, Paired, tailPiece, FollowsLink, Meets}
-use Rattle.marking.specs.Spans.{Span, codeSpan, linkSpan, spanEnd, EndsBefore, SpansAre}
+use Rattle.marking.specs.Marking.{link, Piece, Rules, Marking, At, Paired, tailPiece, FollowsTaken, Meets}
+use Rattle.marking.specs.Spans.{Span, codeSpan, pairSpan, spanEnd, EndsBefore, SpansAre}
 use Rattle.marking.specs.Open.{NeverOver, FirstOver}
-use Rattle.marking.specs.Claims.{ExactlyOne, OnePairAtMost, PairsNest, NoLinkHoldsALink, LinksApart, TailsOnlyAfterLinks}
+use Rattle.marking.specs.Claims.{ExactlyOne, OnePairAtMost, PairsNest, TakenAsOpened, NoLinkHoldsALink, LinksApart, TailsOnlyAfterTaken}
 use Rattle.marking.specs.ReadingRules.{Grammar, Computes}
 use Rattle.marking.specs.Reading.{reading}
 use Rattle.marking.specs.ReadingSpans.{spans, over}
 use Rattle.marking.proofs.Sorted.{sorted-same}
-use Rattle.marking.proofs.Pairs.{link-pair, one-partner}
+use Rattle.marking.proofs.Pairs.{Taken, taken-are, taken-pair, one-partner}
 use Rattle.marking.proofs.PairOrder.{one-closing-piece, apart-or-nested}
 use Rattle.marking.proofs.Sound.{Sound, rulesOf}
 use Rattle.marking.proofs.Unique.{unique, not-both}
@@ -37,34 +37,40 @@ module _ {T : Type 0} (r : Rules T) (m : Marking T) (c : Meets r m) where
   pub pairs-nest : PairsNest m
   pairs-nest i j i′ j′ p p′ h = apart-or-nested (m .pieces) i j i′ j′ (c .pairs-are i j .0 p) (c .pairs-are i′ j′ .0 p′) h
 
+  pub taken-as-opened : TakenAsOpened m
+  taken-as-opened x i j t l =
+      let d : Taken r x m i j t = taken-are c x i j t .0 l in
+      record { paired = d .paired; opening = record { piece = d .has-tail .open-piece; at = d .has-tail .open-at; is-kind = d .has-tail .of-sort } }
+
   pub no-link-holds-a-link : NoLinkHoldsALink m
   no-link-holds-a-link i j i′ j′ t t′ l l′ h h′ = not-both (c .links-are i j t .0 l .no-link-between i′ j′ h h′) l′
 
   pub links-apart : LinksApart m
-  links-apart i j i′ j′ t t′ l l′ h = by (apart-or-nested (m .pieces) i j i′ j′ (link-pair c i j t l) (link-pair c i′ j′ t′ l′) h)
+  links-apart i j i′ j′ t t′ l l′ h = by (apart-or-nested (m .pieces) i j i′ j′ (taken-pair c link i j t l) (taken-pair c link i′ j′ t′ l′) h)
     where
       by : (j < i′) ⊎ (j′ < j) → j < i′
       by (inl z) = z
       by (inr z) = absurd (no-link-holds-a-link i j i′ j′ t t′ l l′ h z)
 
-  pub tails-only-after-links : TailsOnlyAfterLinks r m
-  tails-only-after-links k q a e =
-      let f : FollowsLink m k = c .no-other-tails k q a e in
-      let p : Paired (m .pieces) (f .from) (f .to) = link-pair c (f .from) (f .to) (f .with-tail) (f .linked) in
+  pub tails-only-after-taken : TailsOnlyAfterTaken r m
+  tails-only-after-taken k q a e =
+      let f : FollowsTaken m k = c .no-other-tails k q a e in
+      let p : Paired (m .pieces) (f .from) (f .to) = taken-pair c (f .sort) (f .from) (f .to) (f .with-tail) (f .taken) in
       let x : Piece = tailPiece (p .closed .piece) (r .lengthOf (f .with-tail)) in
-      let b : At (m .pieces) (suc (f .to)) x = c .tails (f .from) (f .to) (f .with-tail) (p .closed .piece) (f .linked) (p .closed .at) in
+      let b : At (m .pieces) (suc (f .to)) x = c .tails (f .sort) (f .from) (f .to) (f .with-tail) (p .closed .piece) (f .taken) (p .closed .at) in
       record {
+        sort = f .sort;
         from = f .from;
         to = f .to;
         with-tail = f .with-tail;
-        linked = f .linked;
+        taken = f .taken;
         close-piece = p .closed .piece;
         close-at = p .closed .at;
         next = f .next;
         is-tail = Option·some-injective q x (sym a ∙ ap (getElem? (m .pieces)) (f .next) ∙ b);
       }
 
--- the links and code spans of a marking have one list
+-- the links, images and code spans of a marking have one list
 pub spans-unique : {T : Type 0} (r : Rules T) (m : Marking T) (xs ys : List (Span T)) → SpansAre r m xs → SpansAre r m ys → xs ≡ ys
 spans-unique r m xs ys a b =
     sorted-same (EndsBefore r) (λ x y z h h′. omega arith) (λ x h. omega arith) xs ys (a .in-order) (b .in-order)
@@ -84,7 +90,7 @@ module _ {T : Type 0} (r : Rules T) (g : Grammar T) (w : Computes r g) (sd : Sou
 
   same-end : (x : Span T) → spanEnd r x ≡ spanEnd (rulesOf g) x
   same-end (codeSpan q) = refl
-  same-end (linkSpan o c t) = omega (arith, w .lengths t)
+  same-end (pairSpan x o c t) = omega (arith, w .lengths t)
 
   pub spans-of-any : (m : Marking T) → Meets r m → SpansAre r m (spans g)
   spans-of-any m c =

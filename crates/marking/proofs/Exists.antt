@@ -1,16 +1,16 @@
 -- The reading from left to right makes a marking that meets the conditions.
 use mathlib.Core.Path.{_≡_, refl, sym, _∙_, subst}
 use mathlib.Core.Bool.{Bool, true, false, false≢true}
-use mathlib.Core.Option.{Option·none-ne-some}
+use mathlib.Core.Option.{some, Option·none-ne-some}
 use Prim.Native.Nat.{ℕ, zero, suc, _+_, _≤_, _<_}
 use native.Mathlib.Omega.{arith}
 use lib.Dec.{ltb}
 use lib.ListN.{getD}
 use borrow.Author.Tests.{ltb-true, ltb-false}
-use Rattle.marking.specs.Marking.{Role, nothing, opening, closing, trailing, role, Meets}
-use Rattle.marking.specs.Spans.{Span, codeSpan, linkSpan, SpanOf}
+use Rattle.marking.specs.Marking.{Sort, link, image, Role, nothing, opening, closing, trailing, role, chosen, Meets}
+use Rattle.marking.specs.Spans.{Span, codeSpan, pairSpan, SpanOf}
 use Rattle.marking.specs.ReadingRules.{Grammar}
-use Rattle.marking.specs.Reading.{State, pieceAt, blank, foundBy, placeAfter, extend, found, step, run, start, reading}
+use Rattle.marking.specs.Reading.{State, pieceAt, blank, sortOf, foundBy, placeAfter, extend, found, step, run, start, reading}
 use Rattle.marking.proofs.Roles.{nothing≢closing, opening≢closing, trailing≢closing}
 use Rattle.marking.proofs.Stack.{StackOf, stack-start}
 use Rattle.marking.proofs.Sound.{Sound, rulesOf, MeetsTo}
@@ -32,7 +32,8 @@ unfolding found
 found-is g s v = by (role (g .kindAt (s .place))) refl
   where
     by : (r : Role) → role (g .kindAt (s .place)) ≡ r
-        → FoundIs g (s .marking) (pieceAt g (s .place)) (foundBy (λ i. g .tailAt (getD (s .marking .pieces) i blank .end) (s .place)) (s .last-link) (s .stack) r)
+        → FoundIs g (s .marking) (pieceAt g (s .place))
+        (foundBy (λ i. sortOf (getD (s .marking .pieces) i blank .kind)) (λ i. g .tailAt (getD (s .marking .pieces) i blank .end) (s .place)) (s .last-link) (s .stack) r)
     by nothing e = found-alone g (s .marking) (pieceAt g (s .place)) (λ i e′ l. nothing≢closing (sym e ∙ e′))
     by opening e = found-alone g (s .marking) (pieceAt g (s .place)) (λ i e′ l. opening≢closing (sym e ∙ e′))
     by closing e = found-closing g (s .marking) (s .place) (s .last-link) (v .last-is) e (s .stack) (v .stack-is)
@@ -60,10 +61,15 @@ step-inv g s v h =
 
 -- ---- the whole reading
 
+none-taken : {T : Type 0} (x : Sort) (i j : ℕ) (t : T) → chosen x (start .marking) i j ≡ some t → ⊥
+unfolding start
+none-taken link i j t e = Option·none-ne-some t e
+none-taken image i j t e = Option·none-ne-some t e
+
 no-span : {T : Type 0} (x : Span T) → SpanOf (start .marking) x → ⊥
 unfolding start
 no-span (codeSpan q) s = Option·none-ne-some q (s .at)
-no-span (linkSpan o c t) s = Option·none-ne-some t (s .linked)
+no-span (pairSpan x o c t) s = none-taken x (s .from) (s .to) t (s .taken)
 
 pub start-inv : {T : Type 0} (g : Grammar T) → Sound g → Inv g start
 unfolding start
@@ -74,10 +80,11 @@ start-inv g sd =
           record {
             tiled = refl;
             kinds = λ k q a. absurd (Option·none-ne-some q a);
-            tails = λ i j t x l. absurd (Option·none-ne-some t l);
+            tails = λ x i j t q l. absurd (none-taken x i j t l);
             no-other-tails = λ k q a. absurd (Option·none-ne-some q a);
             pairs-are = λ i j. ((λ e. absurd (false≢true e)), λ p. absurd (Option·none-ne-some (p .closed .piece) (p .closed .at)));
-            links-are = λ i j t. ((λ e. absurd (Option·none-ne-some t e)), λ l. absurd (false≢true (l .paired)));
+            links-are = λ i j t. ((λ e. absurd (none-taken link i j t e)), λ l. absurd (false≢true (l .paired)));
+            images-are = λ i j t. ((λ e. absurd (none-taken image i j t e)), λ l. absurd (false≢true (l .paired)));
           };
       bound = omega arith;
       stack-is = stack-start;

@@ -3,13 +3,13 @@ use mathlib.Core.Path.{_≡_, refl, sym, _∙_}
 use mathlib.Core.Bool.{Bool, true, false, cond}
 use mathlib.Core.Option.{Option, none, some}
 use mathlib.Core.List.{List, [], _∷_}
-use Prim.Native.Nat.{ℕ, zero, suc, _+_, _≤_, _<_}
+use Prim.Native.Nat.{ℕ, zero, suc, _+_, _-_, _≤_, _<_}
 use native.Mathlib.Omega.{arith}
 use lib.Dec.{ltb}
 use borrow.Author.Tests.{ltb-true, ltb-false, lt-ltb, le-ltb}
-use Rattle.marking.specs.Marking.{Role, nothing, opening, closing, trailing, role}
+use Rattle.marking.specs.Marking.{Sort, Role, nothing, opening, closing, trailing, role}
 use Rattle.marking.specs.ReadingRules.{Grammar}
-use Rattle.marking.specs.Reading.{Match, alone, paired, linked, withTail, foundClosing, foundBy, pieceAt, placeAfter}
+use Rattle.marking.specs.Reading.{Match, alone, paired, taken, withTail, sortOf, barred, foundClosing, foundBy, pieceAt, placeAfter}
 use Rattle.marking.specs.ReadingSpans.{Scan, scanFound, scanStep, scan, finish, overAt, overWithin, overs}
 use Rattle.marking.proofs.Sound.{Sound}
 
@@ -27,7 +27,7 @@ module _ {T : Type 0} (g : Grammar T) where
     after-grows : (b : ℕ) (f : Match T) → b < g .size → b < placeAfter g (pieceAt g b) f
     after-grows b alone h = sd .grows b h
     after-grows b (paired i) h = sd .grows b h
-    after-grows b (linked i t) h = omega (arith, sd .grows b h)
+    after-grows b (taken x i t) h = omega (arith, sd .grows b h)
 
     pub scan-grows : (s : Scan T) → s .place < g .size → s .place < scanStep g s .place
     unfolding scanStep
@@ -35,22 +35,25 @@ module _ {T : Type 0} (g : Grammar T) where
 
     -- a step ends within the paragraph, since each piece does, and each tail that the grammar gives
     module _ (s : Scan T) (h : s .place < g .size) where
+      abbrev sortAt : ℕ → Sort
+      sortAt o = sortOf (g .kindAt o)
+
       abbrev tailOf : ℕ → Option T
       tailOf o = g .tailAt (g .endAt o) (s .place)
 
       abbrev Ends : Match T → Type 0
       Ends f = placeAfter g (pieceAt g (s .place)) f ≤ g .size
 
-      closing-ends : role (g .kindAt (s .place)) ≡ closing → (st : List ℕ) → Ends (foundClosing tailOf (s .last-link) st)
+      closing-ends : role (g .kindAt (s .place)) ≡ closing → (st : List ℕ) → Ends (foundClosing sortAt tailOf (s .last-link) st)
       closing-ends r [] = sd .within (s .place) h
-      closing-ends r (i ∷ st) = pair-ends (ltb i (s .last-link)) (tailOf i) refl
+      closing-ends r (i ∷ st) = pair-ends (barred (sortAt i) i (s .last-link)) (tailOf i) refl
         where
-          pair-ends : (b : Bool) (x : Option T) → tailOf i ≡ x → Ends (cond b (paired i) (withTail i x))
+          pair-ends : (b : Bool) (x : Option T) → tailOf i ≡ x → Ends (cond b (paired i) (withTail (sortAt i) i x))
           pair-ends true x e = sd .within (s .place) h
           pair-ends false none e = sd .within (s .place) h
           pair-ends false (some t) e = sd .tail-within (g .endAt i) (s .place) t h r e
 
-      role-ends : (x : Role) → role (g .kindAt (s .place)) ≡ x → Ends (foundBy tailOf (s .last-link) (s .stack) x)
+      role-ends : (x : Role) → role (g .kindAt (s .place)) ≡ x → Ends (foundBy sortAt tailOf (s .last-link) (s .stack) x)
       role-ends nothing r = sd .within (s .place) h
       role-ends opening r = sd .within (s .place) h
       role-ends closing r = closing-ends r (s .stack)
@@ -83,7 +86,7 @@ module _ {T : Type 0} (g : Grammar T) where
 -- ---- the same of the first bracket too many
 
 module _ {T : Type 0} (limit : ℕ) (g : Grammar T) where
-  pub over-deep : (n : ℕ) (s : Scan T) → s .place < g .size → overAt limit g s ≡ true → overWithin limit (suc n) g s ≡ some (s .place)
+  pub over-deep : (n : ℕ) (s : Scan T) → s .place < g .size → overAt limit g s ≡ true → overWithin limit (suc n) g s ≡ some (g .endAt (s .place) - 1)
   unfolding overWithin
   over-deep n s h e = rw (lt-ltb (s .place) (g .size) h, e, overWithin)
 
@@ -116,11 +119,11 @@ module _ {T : Type 0} (limit : ℕ) (g : Grammar T) where
         by zero z = absurd (omega arith)
         by (suc n) z = over-on n s h e ∙ sym (over-more n (scanStep g s) (omega (arith, scan-grows g sd s h)))
 
-  pub overs-deep : (s : Scan T) → s .place < g .size → overAt limit g s ≡ true → overs limit g s ≡ some (s .place)
+  pub overs-deep : (s : Scan T) → s .place < g .size → overAt limit g s ≡ true → overs limit g s ≡ some (g .endAt (s .place) - 1)
   unfolding overs
   overs-deep s h e = by (g .size) refl
     where
-      by : (n : ℕ) → g .size ≡ n → overWithin limit n g s ≡ some (s .place)
+      by : (n : ℕ) → g .size ≡ n → overWithin limit n g s ≡ some (g .endAt (s .place) - 1)
       by zero z = absurd (omega arith)
       by (suc n) z = over-deep n s h e
 

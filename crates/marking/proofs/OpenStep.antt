@@ -53,7 +53,7 @@ module _ {T : Type 0} (g : Grammar T) (sd : Sound g) (m : Marking T) (b : ℕ) (
             λ p. o .unpaired (length (m .pieces)) longer (ext-pairs-new g m next f i ∙ p),
           )
       by (here e e′) = inr (sym e, ap (λ (y : Piece). role (y .kind)) (sym e′) ∙ o .bracket .as-role)
-      by (after a t e e′ e″) = absurd (trailing≢opening (ap (λ (y : Piece). role (y .kind)) (sym e″) ∙ o .bracket .as-role))
+      by (after y a t e e′ e″) = absurd (trailing≢opening (ap (λ (y : Piece). role (y .kind)) (sym e″) ∙ o .bracket .as-role))
 
   pub pairs-cases : (i j : ℕ) → grown .pairs i j ≡ true → OldOrNew (m .pieces) f i j
   unfolding extend

@@ -4,7 +4,7 @@ use mathlib.Core.Logic.{inl, inr}
 use mathlib.Core.Bool.{Bool, true, false, false≢true}
 use mathlib.Core.Option.{Option, none, some, Option·some-injective, Option·none-ne-some}
 use mathlib.Core.List.{List, [], _∷_, map}
-use Prim.Native.Nat.{ℕ, zero, suc, _≤_, _<_}
+use Prim.Native.Nat.{ℕ, zero, suc, _-_, _≤_, _<_}
 use native.Mathlib.Decide.{decLe, decLt}
 use native.Mathlib.Omega.{arith}
 use lib.Dec.{ltb, leb}
@@ -60,7 +60,7 @@ module _ {T : Type 0} (g : Grammar T) (s : State T) (v : Inv g s) (h : s .place 
       by : Stands g ps next (found g s) i (o .piece) → i ≤ length ps
       by (earlier a l) = omega arith
       by (here e e′) = omega arith
-      by (after a t e e′ e″) = absurd (trailing≢opening (ap (λ (y : Piece). role (y .kind)) (sym e″) ∙ o .as-role))
+      by (after y a t e e′ e″) = absurd (trailing≢opening (ap (λ (y : Piece). role (y .kind)) (sym e″) ∙ o .as-role))
 
   -- between the new piece and its tail as many are open as after the tail
   open-between : (k : ℕ) → length ps < k → k ≤ length (step g s .marking .pieces) → (xs : List ℕ)
@@ -122,7 +122,7 @@ module _ {T : Type 0} (limit : ℕ) (g : Grammar T) (s : State T) (v : Inv g s) 
       by (no l) = omega (arith, deep, number-is (step g s .marking) k (step g s .stack) (step-open k (omega arith) hk))
 
   -- the bracket too many, in every marking that goes on from the step
-  first-over : overNow limit g s ≡ true → (m : Marking T) → Keeps (step g s .marking) m → FirstOver limit m (s .place)
+  first-over : overNow limit g s ≡ true → (m : Marking T) → Keeps (step g s .marking) m → FirstOver limit m (g .endAt (s .place) - 1)
   unfolding step extend
   first-over e m w =
       let d : (role (g .kindAt (s .place)) ≡ opening) × (limit ≤ length (s .stack)) = deep-opening limit (s .stack) (role (g .kindAt (s .place))) e in
@@ -137,7 +137,7 @@ module _ {T : Type 0} (limit : ℕ) (g : Grammar T) (s : State T) (v : Inv g s) 
                   ∙ at-seam (s .marking .pieces) (pieceAt g (s .place)) (extra g (pieceAt g (s .place)) (found g s));
               as-role = d .0;
             };
-        place-is = refl;
+        place-is = omega (arith, v .sound .grows (s .place) h);
         too-many =
             omega (arith, d .1, len, number-on (step g s .marking) m w (suc (length (s .marking .pieces))) lg (step g s .stack) (step-open (suc (length (s .marking .pieces))) (omega arith) lg));
         none-before = λ k hk.
@@ -195,11 +195,12 @@ told (suc n) limit {T} g s v now bd =
     by : Below → (x y : Bool) → ltb (s .place) (g .size) ≡ x → overNow limit g s ≡ y → Told limit (run (suc n) g s .marking) (overWithin limit (suc n) g (view s))
     by below true true e e′ =
         let l : s .place < g .size = ltb-true (s .place) (g .size) e in
-        let f : FirstOver limit (run n g (step g s) .marking) (s .place) = first-over limit g s v l now bd e′ (run n g (step g s) .marking) (run-keeps n g (step g s) (step-inv g s v l .0)) in
+        let at : ℕ = g .endAt (s .place) - 1 in
+        let f : FirstOver limit (run n g (step g s) .marking) at = first-over limit g s v l now bd e′ (run n g (step g s) .marking) (run-keeps n g (step g s) (step-inv g s v l .0)) in
         subst₂ (λ (y : State T) (o : Option ℕ). Told limit (y .marking) o) (sym (run-on n g s l)) (sym (over-deep limit g n (view s) l (same ∙ e′)))
         (record {
-          first = λ p ep. subst (λ (q : ℕ). FirstOver limit (run n g (step g s) .marking) q) (Option·some-injective (s .place) p ep) f;
-          never = λ ep. absurd (Option·none-ne-some (s .place) (sym ep));
+          first = λ p ep. subst (λ (q : ℕ). FirstOver limit (run n g (step g s) .marking) q) (Option·some-injective at p ep) f;
+          never = λ ep. absurd (Option·none-ne-some at (sym ep));
         })
     by below true false e e′ =
         let l : s .place < g .size = ltb-true (s .place) (g .size) e in
@@ -233,4 +234,5 @@ first-over-unique limit m p p′ f f′ = by (decLt (f .index) (f′ .index)) (d
     by (no h) (no h′) =
         let e : f .index ≡ f′ .index = omega arith in
         let q : f .bracket .piece ≡ f′ .bracket .piece = Option·some-injective (f .bracket .piece) (f′ .bracket .piece) (sym (f .bracket .at) ∙ ap (getElem? (m .pieces)) e ∙ f′ .bracket .at) in
-        sym (f .place-is) ∙ ap (λ (y : Piece). y .start) q ∙ f′ .place-is
+        let z : f .bracket .piece .end ≡ f′ .bracket .piece .end = ap (λ (y : Piece). y .end) q in
+        omega (arith, f .place-is, f′ .place-is)

@@ -11,17 +11,17 @@ use lib.Dec.{ltb}
 use lib.ListN.{length, getElem?, getD, List·getD-append}
 use lib.Seq.{getD-append-seam}
 use borrow.Author.Tests.{ltb-true, ltb-false, lt-ltb, le-ltb}
-use Rattle.marking.specs.Marking.{Role, nothing, opening, closing, trailing, role, Piece, At, Plays, Tiles, Paired}
-use Rattle.marking.specs.Spans.{Span, linkSpan, SpansAre}
+use Rattle.marking.specs.Marking.{Sort, link, image, Kind, Role, nothing, opening, closing, trailing, role, Piece, At, Plays, Tiles, Paired}
+use Rattle.marking.specs.Spans.{Span, pairSpan, SpansAre}
 use Rattle.marking.specs.ReadingRules.{Grammar, Computed}
-use Rattle.marking.specs.Reading.{Match, alone, paired, linked, State, pieceAt, blank, withTail, foundClosing, foundBy, stackBy, extra, placeAfter, lastAfter, newSpans, extend, found, step, run, start, reading}
+use Rattle.marking.specs.Reading.{Match, alone, paired, taken, State, pieceAt, blank, withTail, sortOf, barred, foundClosing, foundBy, stackBy, extra, placeAfter, lastAfter, newSpans, extend, found, step, run, start, reading}
 use Rattle.marking.specs.ReadingSpans.{Scan, scanFound, scanStep, scan, finish, scanStart, spans}
 use Rattle.marking.proofs.Lists.{at-inside}
 use Rattle.marking.proofs.Roles.{opening≢trailing}
 use Rattle.marking.proofs.Tiles.{tiles-order}
-use Rattle.marking.proofs.Pairs.{pair-inside, link-pair}
+use Rattle.marking.proofs.Pairs.{pair-inside, taken-pair}
 use Rattle.marking.proofs.Sound.{Sound, rulesOf}
-use Rattle.marking.proofs.Next.{FoundIs, own-link}
+use Rattle.marking.proofs.Next.{FoundIs, own-taken}
 use Rattle.marking.proofs.Found.{at-getD}
 use Rattle.marking.proofs.Exists.{Inv, found-is, step-inv, start-inv, run-inv, Done}
 
@@ -34,7 +34,7 @@ view s = record { place = s .place; stack = map (startOf (s .marking .pieces)) (
 abbrev mapFound : {T : Type 0} → (ℕ → ℕ) → Match T → Match T
 mapFound h alone = alone
 mapFound h (paired i) = paired (h i)
-mapFound h (linked i t) = linked (h i) t
+mapFound h (taken x i t) = taken x (h i) t
 
 getD-at : (ps : List Piece) (i : ℕ) → i < length ps → At ps i (getD ps i blank)
 getD-at [] i h = absurd (omega arith)
@@ -58,15 +58,15 @@ not-trailing r e e′ = opening≢trailing (sym e ∙ e′)
 started : {T : Type 0} (g : Grammar T) (o : Piece) → Computed g o → pieceAt g (o .start) ≡ o
 started g o d = λ x. record { kind = sym (d .kind-is) x; start = o .start; end = sym (d .end-is) x }
 
-map-cond : {T : Type 0} (h : ℕ → ℕ) (i : ℕ) (b : Bool) (o : Option T) → cond b (paired (h i)) (withTail (h i) o) ≡ mapFound h (cond b (paired i) (withTail i o))
-map-cond h i true o = refl
-map-cond h i false none = refl
-map-cond h i false (some t) = refl
+map-cond : {T : Type 0} (h : ℕ → ℕ) (x : Sort) (i : ℕ) (b : Bool) (o : Option T) → cond b (paired (h i)) (withTail x (h i) o) ≡ mapFound h (cond b (paired i) (withTail x i o))
+map-cond h x i true o = refl
+map-cond h x i false none = refl
+map-cond h x i false (some t) = refl
 
 map-place : {T : Type 0} (g : Grammar T) (q : Piece) (h : ℕ → ℕ) (f : Match T) → placeAfter g q (mapFound h f) ≡ placeAfter g q f
 map-place g q h alone = refl
 map-place g q h (paired i) = refl
-map-place g q h (linked i t) = refl
+map-place g q h (taken x i t) = refl
 
 first-kept : (ps rest : List Piece) (q : Piece) (b : ℕ) → Tiles 0 ps b → q .start ≡ b → startOf ps 0 ≡ startOf (ps ++ q ∷ rest) 0
 first-kept [] rest q b t e = t ∙ sym e
@@ -107,7 +107,7 @@ module _ {T : Type 0} (g : Grammar T) (s : State T) (v : Inv g s) where
   last-inside : 0 < s .last-link → s .last-link < length ps
   last-inside h =
       let w : (j : ℕ) × (t : T) × (s .marking .links (s .last-link) j ≡ some t) = v .last-is .is-link h in
-      let p : Paired ps (s .last-link) (w .0) = link-pair (v .meets) (s .last-link) (w .0) (w .1) (w .2) in
+      let p : Paired ps (s .last-link) (w .0) = taken-pair (v .meets) link (s .last-link) (w .0) (w .1) (w .2) in
       omega (arith, p .before, pair-inside p)
 
   -- the order of an opening piece and of the last link, by index and by place
@@ -125,16 +125,23 @@ module _ {T : Type 0} (g : Grammar T) (s : State T) (v : Inv g s) where
 
   -- ---- what a piece comes to, by index and by place
 
+  barred-is : (x : Sort) (i : ℕ) → Plays opening ps i → barred x (startOf ps i) (startOf ps (s .last-link)) ≡ barred x i (s .last-link)
+  barred-is link i p = order-is i p
+  barred-is image i p = refl
+
   closing-is : (st : List ℕ) → ((d i : ℕ) → getElem? st d ≡ some i → Plays opening ps i)
-      → foundClosing (λ o. g .tailAt (g .endAt o) (s .place)) (startOf ps (s .last-link)) (map (startOf ps) st)
-      ≡ mapFound (startOf ps) (foundClosing (λ i. g .tailAt (getD ps i blank .end) (s .place)) (s .last-link) st)
+      → foundClosing (λ o. sortOf (g .kindAt o)) (λ o. g .tailAt (g .endAt o) (s .place)) (startOf ps (s .last-link)) (map (startOf ps) st)
+      ≡ mapFound (startOf ps) (foundClosing (λ i. sortOf (getD ps i blank .kind)) (λ i. g .tailAt (getD ps i blank .end) (s .place)) (s .last-link) st)
   closing-is [] w = refl
   closing-is (i ∷ st) w =
       let p : Plays opening ps i = w 0 i refl in
-      let h : ℕ → ℕ = startOf ps in
-      ap (λ (b : Bool). cond b (paired (h i)) (withTail (h i) (g .tailAt (g .endAt (h i)) (s .place)))) (order-is i p)
-      ∙ ap (λ (e : ℕ). cond (ltb i (s .last-link)) (paired (h i)) (withTail (h i) (g .tailAt e (s .place)))) (sym (open-starts i p .end-is))
-      ∙ map-cond h i (ltb i (s .last-link)) (g .tailAt (getD ps i blank .end) (s .place))
+      let o : Piece = getD ps i blank in
+      let x : Sort = sortOf (o .kind) in
+      let a : ℕ = startOf ps i in
+      ap (λ (k : Kind). cond (barred (sortOf k) a (startOf ps (s .last-link))) (paired a) (withTail (sortOf k) a (g .tailAt (g .endAt a) (s .place)))) (sym (open-starts i p .kind-is))
+      ∙ ap (λ (b : Bool). cond b (paired a) (withTail x a (g .tailAt (g .endAt a) (s .place)))) (barred-is x i p)
+      ∙ ap (λ (e : ℕ). cond (barred x i (s .last-link)) (paired a) (withTail x a (g .tailAt e (s .place)))) (sym (open-starts i p .end-is))
+      ∙ map-cond (startOf ps) x i (barred x i (s .last-link)) (g .tailAt (o .end) (s .place))
 
   stack-opens : (d i : ℕ) → getElem? (s .stack) d ≡ some i → Plays opening ps i
   stack-opens d i h = v .stack-is d i .0 h .opened
@@ -143,8 +150,8 @@ module _ {T : Type 0} (g : Grammar T) (s : State T) (v : Inv g s) where
   unfolding scanFound found
   found-view = by now
     where
-      by : (r : Role) → foundBy (λ o. g .tailAt (g .endAt o) (s .place)) (startOf ps (s .last-link)) (map (startOf ps) (s .stack)) r
-          ≡ mapFound (startOf ps) (foundBy (λ i. g .tailAt (getD ps i blank .end) (s .place)) (s .last-link) (s .stack) r)
+      by : (r : Role) → foundBy (λ o. sortOf (g .kindAt o)) (λ o. g .tailAt (g .endAt o) (s .place)) (startOf ps (s .last-link)) (map (startOf ps) (s .stack)) r
+          ≡ mapFound (startOf ps) (foundBy (λ i. sortOf (getD ps i blank .kind)) (λ i. g .tailAt (getD ps i blank .end) (s .place)) (s .last-link) (s .stack) r)
       by nothing = refl
       by opening = refl
       by closing = closing-is (s .stack) stack-opens
@@ -191,10 +198,10 @@ module _ {T : Type 0} (g : Grammar T) (s : State T) (v : Inv g s) where
           ∙ first-kept ps (extra g next (found g s)) next (s .place) (v .meets .tiled) refl
           ∙ ap grown (sym e)
 
-  found-opens : (i : ℕ) (t : T) → found g s ≡ linked i t → Plays opening ps i
-  found-opens i t e =
-      let fi : FoundIs g (s .marking) next (linked i t) = subst (λ (y : Match T). FoundIs g (s .marking) next y) e (found-is g s v) in
-      fi .pair-found i .0 (fi .link-found i t .0 (own-link i t) .0) .1 .opened
+  found-opens : (x : Sort) (i : ℕ) (t : T) → found g s ≡ taken x i t → Plays opening ps i
+  found-opens x i t e =
+      let fi : FoundIs g (s .marking) next (taken x i t) = subst (λ (y : Match T). FoundIs g (s .marking) next y) e (found-is g s v) in
+      fi .pair-found i .0 (fi .taken-found x i t .0 (own-taken x i t) .0) .1 .opened
 
   last-view : lastAfter (startOf ps (s .last-link)) (mapFound (startOf ps) (found g s)) ≡ grown (lastAfter (s .last-link) (found g s))
   last-view = by (found g s) refl
@@ -202,7 +209,8 @@ module _ {T : Type 0} (g : Grammar T) (s : State T) (v : Inv g s) where
       by : (f : Match T) → found g s ≡ f → lastAfter (startOf ps (s .last-link)) (mapFound (startOf ps) f) ≡ grown (lastAfter (s .last-link) f)
       by alone e = last-kept
       by (paired i) e = last-kept
-      by (linked i t) e = start-kept i (open-inside i (found-opens i t e))
+      by (taken link i t) e = start-kept i (open-inside i (found-opens link i t e))
+      by (taken image i t) e = last-kept
 
   spans-view : newSpans (pieceAt g) next (mapFound (startOf ps) (found g s)) ≡ newSpans (λ i. getD ps i blank) next (found g s)
   spans-view = by (found g s) refl
@@ -210,7 +218,7 @@ module _ {T : Type 0} (g : Grammar T) (s : State T) (v : Inv g s) where
       by : (f : Match T) → found g s ≡ f → newSpans (pieceAt g) next (mapFound (startOf ps) f) ≡ newSpans (λ i. getD ps i blank) next f
       by alone e = refl
       by (paired i) e = refl
-      by (linked i t) e = ap (λ (y : Piece). linkSpan y next t ∷ []) (open-is i (found-opens i t e))
+      by (taken x i t) e = ap (λ (y : Piece). pairSpan x y next t ∷ []) (open-is i (found-opens x i t e))
 
   pub step-view : scanStep g (view s) ≡ view (step g s)
   unfolding scanStep step extend grown

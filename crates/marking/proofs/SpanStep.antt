@@ -10,16 +10,16 @@ use native.Mathlib.Omega.{arith}
 use lib.Dec.{eqb}
 use lib.ListN.{length, getElem?, getD}
 use borrow.Author.Tests.{eq-eqb}
-use Rattle.marking.specs.Marking.{Kind, escape, code, plain, opens, closes, tail, closing, role, Piece, Marking}
+use Rattle.marking.specs.Marking.{Kind, escape, code, plain, closes, tail, opens, closing, role, Piece, Marking, chosen}
 use Rattle.scan.specs.Member.{In}
-use Rattle.marking.specs.Spans.{Span, codeSpan, linkSpan, spanEnd, EndsBefore, CodeOf, LinkOf, SpanOf, SpansAre}
+use Rattle.marking.specs.Spans.{Span, codeSpan, pairSpan, spanEnd, EndsBefore, CodeOf, TakenOf, SpanOf, SpansAre}
 use Rattle.marking.specs.ReadingRules.{Grammar}
-use Rattle.marking.specs.Reading.{Match, alone, paired, linked, linkColumn, pieceAt, blank, extra, placeAfter, extend, isCode, newSpans}
+use Rattle.marking.specs.Reading.{Match, alone, paired, taken, takenColumn, pieceAt, blank, extra, placeAfter, extend, isCode, newSpans}
 use Rattle.marking.proofs.Lists.{at-inside, at-left, at-right, at-seam, at-back, at-split}
 use Rattle.marking.proofs.Roles.{nothing≢closing, nothing≢trailing}
-use Rattle.marking.proofs.Pairs.{pair-inside, link-pair}
+use Rattle.marking.proofs.Pairs.{pair-inside, taken-pair}
 use Rattle.marking.proofs.Sound.{Sound, rulesOf, MeetsTo}
-use Rattle.marking.proofs.Next.{LinkFound, FoundIs, link-column, own-link, ext-links-old, ext-links-new, Stands, earlier, here, after, stands}
+use Rattle.marking.proofs.Next.{TakenFound, FoundIs, taken-column, own-taken, ext-taken-old, ext-taken-new, Stands, earlier, here, after, stands}
 use Rattle.marking.proofs.Found.{at-getD, further}
 
 pub record SpansTo {T : Type 0} (g : Grammar T) (b : ℕ) (m : Marking T) (xs : List (Span T)) : Type 0 where
@@ -79,9 +79,9 @@ code-is : (k : Kind) → isCode k ≡ true → k ≡ code
 code-is escape e = absurd (false≢true e)
 code-is code e = refl
 code-is plain e = absurd (false≢true e)
-code-is opens e = absurd (false≢true e)
 code-is closes e = absurd (false≢true e)
 code-is tail e = absurd (false≢true e)
+code-is (opens x) e = absurd (false≢true e)
 
 only : {A : Type 0} (y x : A) (d : ℕ) → getElem? (y ∷ []) d ≡ some x → y ≡ x
 only y x zero h = Option·some-injective y x h
@@ -104,12 +104,12 @@ module _ {T : Type 0} (g : Grammar T) (sd : Sound g) (m : Marking T) (b : ℕ) (
   keep-span : (x : Span T) → SpanOf m x → SpanOf grown x
   unfolding extend
   keep-span (codeSpan q) s = record { index = s .index; at = at-left (m .pieces) added (s .index) q (s .at); is-code = s .is-code }
-  keep-span (linkSpan o p t) s =
+  keep-span (pairSpan x o p t) s =
       let h : s .to < length (m .pieces) = at-inside (m .pieces) (s .to) p (s .close-at) in
       record {
         from = s .from;
         to = s .to;
-        linked = ext-links-old g m next f (s .from) (s .to) (omega arith) ∙ s .linked;
+        taken = ext-taken-old g m next f x (s .from) (s .to) (omega arith) ∙ s .taken;
         open-at = at-left (m .pieces) added (s .from) o (s .open-at);
         close-at = at-left (m .pieces) added (s .to) p (s .close-at);
       }
@@ -120,7 +120,7 @@ module _ {T : Type 0} (g : Grammar T) (sd : Sound g) (m : Marking T) (b : ℕ) (
   code-new : (f : Match T) → FoundIs g m next f → g .kindAt b ≡ code → In (codeSpan next) (fresh f)
   code-new alone fi′ e = (0, rw e)
   code-new (paired a) fi′ e = absurd (no-code a e (paired a) fi′ (λ h. fi′ .pair-found a .0 h .0))
-  code-new (linked a t) fi′ e = absurd (no-code a e (linked a t) fi′ (λ h. fi′ .pair-found a .0 h .0))
+  code-new (taken x a t) fi′ e = absurd (no-code a e (taken x a t) fi′ (λ h. fi′ .pair-found a .0 h .0))
 
   span-cases : (x : Span T) → SpanOf grown x → SpanOf m x ⊎ In x (fresh f)
   unfolding extend
@@ -131,26 +131,26 @@ module _ {T : Type 0} (g : Grammar T) (sd : Sound g) (m : Marking T) (b : ℕ) (
       by (here e e′) =
           inr (subst (λ (y : Piece). In (codeSpan y) (fresh f)) (sym e′)
           (code-new f fi (ap (λ (y : Piece). y .kind) (sym e′) ∙ s .is-code)))
-      by (after i t e e′ e″) = absurd (nothing≢trailing (ap role (sym (s .is-code)) ∙ ap (λ (y : Piece). role (y .kind)) e″))
-  span-cases (linkSpan o p t) s = by (ℕ-discrete (s .to) (length (m .pieces)))
+      by (after y i t e e′ e″) = absurd (nothing≢trailing (ap role (sym (s .is-code)) ∙ ap (λ (y : Piece). role (y .kind)) e″))
+  span-cases (pairSpan x o p t) s = by (ℕ-discrete (s .to) (length (m .pieces)))
     where
-      by : Dec (s .to ≡ length (m .pieces)) → LinkOf m o p t ⊎ In (linkSpan o p t) (fresh f)
+      by : Dec (s .to ≡ length (m .pieces)) → TakenOf m x o p t ⊎ In (pairSpan x o p t) (fresh f)
       by (yes e) =
-          let l : linkColumn f (s .from) ≡ some t = sym (ext-links-new g m next f (s .from)) ∙ ap (λ (k : ℕ). grown .links (s .from) k) (sym e) ∙ s .linked in
-          let d : LinkFound g m next (s .from) t = fi .link-found (s .from) t .0 l .1 in
+          let l : takenColumn x f (s .from) ≡ some t = sym (ext-taken-new g m next f x (s .from)) ∙ ap (λ (k : ℕ). chosen x grown (s .from) k) (sym e) ∙ s .taken in
+          let d : TakenFound g m next x (s .from) t = fi .taken-found x (s .from) t .0 l .1 in
           let eo : d .open-piece ≡ o = Option·some-injective (d .open-piece) o (sym (at-left (m .pieces) added (s .from) (d .open-piece) (d .open-at)) ∙ s .open-at) in
           let eo′ : getD (m .pieces) (s .from) blank ≡ o = at-getD (m .pieces) (s .from) (d .open-piece) (d .open-at) ∙ eo in
           let ep : next ≡ p = Option·some-injective next p (sym (at-seam (m .pieces) next (extra g next f)) ∙ ap (getElem? (m .pieces ++ added)) (sym e) ∙ s .close-at) in
-          inr (subst (λ (y : Match T). In (linkSpan o p t) (fresh y)) (sym (link-column f (s .from) t l))
-          (0, ap (λ (y : Piece). some (linkSpan y next t)) eo′ ∙ ap (λ (y : Piece). some (linkSpan o y t)) ep))
+          inr (subst (λ (y : Match T). In (pairSpan x o p t) (fresh y)) (sym (taken-column x f (s .from) t l))
+          (0, ap (λ (y : Piece). some (pairSpan x y next t)) eo′ ∙ ap (λ (y : Piece). some (pairSpan x o y t)) ep))
       by (no ne) =
-          let l : m .links (s .from) (s .to) ≡ some t = sym (ext-links-old g m next f (s .from) (s .to) ne) ∙ s .linked in
-          let h : s .to < length (m .pieces) = pair-inside (link-pair c (s .from) (s .to) t l) in
-          let h′ : s .from < s .to = link-pair c (s .from) (s .to) t l .before in
+          let l : chosen x m (s .from) (s .to) ≡ some t = sym (ext-taken-old g m next f x (s .from) (s .to) ne) ∙ s .taken in
+          let h : s .to < length (m .pieces) = pair-inside (taken-pair c x (s .from) (s .to) t l) in
+          let h′ : s .from < s .to = taken-pair c x (s .from) (s .to) t l .before in
           inl (record {
             from = s .from;
             to = s .to;
-            linked = l;
+            taken = l;
             open-at = sym (at-back (m .pieces) added (s .from) (omega arith)) ∙ s .open-at;
             close-at = sym (at-back (m .pieces) added (s .to) h) ∙ s .close-at;
           })
@@ -168,14 +168,14 @@ module _ {T : Type 0} (g : Grammar T) (sd : Sound g) (m : Marking T) (b : ℕ) (
       by : (f′ : Match T) → f ≡ f′ → getElem? (fresh f′) (h .0) ≡ some x → SpanOf grown x
       by alone e a = plain-or-code (isCode (g .kindAt b)) refl a
       by (paired i) e a = absurd (Option·none-ne-some x a)
-      by (linked i t) e a =
-          let l : linkColumn f i ≡ some t = ap (λ (y : Match T). linkColumn y i) e ∙ own-link i t in
-          let d : LinkFound g m next i t = fi .link-found i t .0 l .1 in
-          subst (λ (y : Span T). SpanOf grown y) (only (linkSpan (getD (m .pieces) i blank) next t) x (h .0) a)
+      by (taken y i t) e a =
+          let l : takenColumn y f i ≡ some t = ap (λ (z : Match T). takenColumn y z i) e ∙ own-taken y i t in
+          let d : TakenFound g m next y i t = fi .taken-found y i t .0 l .1 in
+          subst (λ (z : Span T). SpanOf grown z) (only (pairSpan y (getD (m .pieces) i blank) next t) x (h .0) a)
           (record {
             from = i;
             to = length (m .pieces);
-            linked = ext-links-new g m next f i ∙ l;
+            taken = ext-taken-new g m next f y i ∙ l;
             open-at = at-left (m .pieces) added i (getD (m .pieces) i blank) (d .open-at ∙ ap {B = Option Piece} some (sym (at-getD (m .pieces) i (d .open-piece) (d .open-at))));
             close-at = at-seam (m .pieces) next (extra g next f);
           })
@@ -187,7 +187,7 @@ module _ {T : Type 0} (g : Grammar T) (sd : Sound g) (m : Marking T) (b : ℕ) (
       by true a′ = Option·none-ne-some x a′
       by false a′ = Option·none-ne-some x a′
   one-span (paired i) k x a = Option·none-ne-some x a
-  one-span (linked i t) k x a = Option·none-ne-some x a
+  one-span (taken y i t) k x a = Option·none-ne-some x a
 
   span-end : (f : Match T) (x : Span T) → In x (fresh f) → spanEnd (rulesOf g) x ≡ placeAfter g next f
   span-end alone x h = by (isCode (g .kindAt b)) (h .1)
@@ -196,7 +196,7 @@ module _ {T : Type 0} (g : Grammar T) (sd : Sound g) (m : Marking T) (b : ℕ) (
       by true a = ap (spanEnd (rulesOf g)) (sym (only (codeSpan next) x (h .0) a))
       by false a = absurd (Option·none-ne-some x a)
   span-end (paired i) x h = absurd (Option·none-ne-some x (h .1))
-  span-end (linked i t) x h = ap (spanEnd (rulesOf g)) (sym (only (linkSpan (getD (m .pieces) i blank) next t) x (h .0) (h .1)))
+  span-end (taken y i t) x h = ap (spanEnd (rulesOf g)) (sym (only (pairSpan y (getD (m .pieces) i blank) next t) x (h .0) (h .1)))
 
   pub spans-extended : (xs : List (Span T)) → SpansTo g b m xs
       → SpansTo g (placeAfter g next f) grown (xs ++ fresh f)

@@ -8,27 +8,28 @@ use Prim.Native.Nat.{ℕ, zero, suc, _<_}
 use native.Mathlib.Nat.{not-suc-le-zero}
 use native.Mathlib.Omega.{arith}
 use lib.ListN.{take, getElem?}
-use Rattle.marking.specs.Marking.{Rules, Role, nothing, opening, closing, trailing, role, Piece, Marking, At, Plays, Paired, tailPiece, FollowsLink, HasTail, Linked, Meets}
+use Rattle.marking.specs.Marking.{Sort, link, image, Rules, Role, nothing, opening, closing, trailing, role, Piece, Marking, chosen, At, Plays, Paired, tailPiece, FollowsTaken, HasTail, Meets}
 use Rattle.marking.specs.ReadingRules.{Grammar, Computed}
 use Rattle.marking.proofs.Lists.{take-step, same-at, same-list}
 use Rattle.marking.proofs.Roles.{nothing≢trailing, opening≢trailing, closing≢trailing}
 use Rattle.marking.proofs.Tiles.{reach, tiles-start, tiles-stop}
-use Rattle.marking.proofs.Pairs.{paired-local, link-pair}
+use Rattle.marking.proofs.Pairs.{paired-local, Taken, taken-are, taken-pair}
 use Rattle.marking.proofs.Sound.{rulesOf}
 
 -- the tail of a pair depends on the pieces up to it only
-pub tail-local : {T : Type 0} (r r′ : Rules T) (k : ℕ) (ps ps′ : List Piece) (i j : ℕ) (t : T) → ((o s : ℕ) → r .TailAt o s t → r′ .TailAt o s t)
-    → take k ps ≡ take k ps′ → i < k → j < k → HasTail r ps i j t → HasTail r′ ps′ i j t
-tail-local r r′ k ps ps′ i j t same e hi hj c =
+pub tail-local : {T : Type 0} (r r′ : Rules T) (x : Sort) (k : ℕ) (ps ps′ : List Piece) (i j : ℕ) (t : T) → ((o s : ℕ) → r .TailAt o s t → r′ .TailAt o s t)
+    → take k ps ≡ take k ps′ → i < k → j < k → HasTail r x ps i j t → HasTail r′ x ps′ i j t
+tail-local r r′ x k ps ps′ i j t same e hi hj c =
     record {
       open-piece = c .open-piece;
       close-piece = c .close-piece;
       open-at = sym (same-at k ps ps′ i e hi) ∙ c .open-at;
       close-at = sym (same-at k ps ps′ j e hj) ∙ c .close-at;
+      of-sort = c .of-sort;
       reads = same (c .open-piece .end) (c .close-piece .start) (c .reads);
     }
 
--- ---- the links of the first pieces
+-- ---- the links and images of the first pieces
 
 pub none-of : {T : Type 0} (o : Option T) → ((t : T) → o ≡ some t → ⊥) → o ≡ none
 none-of none f = refl
@@ -37,19 +38,19 @@ none-of (some t) f = absurd (f t refl)
 pub not-both : {T : Type 0} {o : Option T} {t : T} → o ≡ none → o ≡ some t → ⊥
 not-both {t = t} p q = Option·none-ne-some t (sym p ∙ q)
 
-same-link : (b : ℕ) {T : Type 0} (g : Grammar T) (m m′ : Marking T) → Meets (rulesOf g) m → Meets (rulesOf g) m′ → (k : ℕ) → take k (m .pieces) ≡ take k (m′ .pieces)
-    → (i j : ℕ) (t : T) → j < b → j < k → m .links i j ≡ some t → m′ .links i j ≡ some t
-same-link zero g m m′ c c′ k e i j t hb hk l = absurd (not-suc-le-zero hb)
-same-link (suc b) g m m′ c c′ k e i j t hb hk l =
-    let d : Linked (rulesOf g) m i j t = c .links-are i j t .0 l in
-    let p : Paired (m .pieces) i j = link-pair c i j t l in
+same-taken : (b : ℕ) {T : Type 0} (g : Grammar T) (m m′ : Marking T) → Meets (rulesOf g) m → Meets (rulesOf g) m′ → (k : ℕ) → take k (m .pieces) ≡ take k (m′ .pieces)
+    → (x : Sort) (i j : ℕ) (t : T) → j < b → j < k → chosen x m i j ≡ some t → chosen x m′ i j ≡ some t
+same-taken zero g m m′ c c′ k e x i j t hb hk l = absurd (not-suc-le-zero hb)
+same-taken (suc b) g m m′ c c′ k e x i j t hb hk l =
+    let d : Taken (rulesOf g) x m i j t = taken-are c x i j t .0 l in
+    let p : Paired (m .pieces) i j = taken-pair c x i j t l in
     let ij : i < j = p .before in
-    c′ .links-are i j t .1
+    taken-are c′ x i j t .1
     (record {
       paired = c′ .pairs-are i j .1 (paired-local k (m .pieces) (m′ .pieces) i j e hk p);
-      no-link-between = λ i′ j′ hi hj.
-          none-of (m′ .links i′ j′) (λ t′ l′. not-both (d .no-link-between i′ j′ hi hj) (same-link b g m′ m c′ c k (sym e) i′ j′ t′ (omega arith) (omega arith) l′));
-      has-tail = tail-local (rulesOf g) (rulesOf g) k (m .pieces) (m′ .pieces) i j t (λ o s h. h) e (omega arith) hk (d .has-tail);
+      no-link-between = λ xl i′ j′ hi hj.
+          none-of (m′ .links i′ j′) (λ t′ l′. not-both (d .no-link-between xl i′ j′ hi hj) (same-taken b g m′ m c′ c k (sym e) link i′ j′ t′ (omega arith) (omega arith) l′));
+      has-tail = tail-local (rulesOf g) (rulesOf g) x k (m .pieces) (m′ .pieces) i j t (λ o s h. h) e (omega arith) hk (d .has-tail);
     })
 
 -- ---- the next piece
@@ -73,15 +74,15 @@ module _ {T : Type 0} (g : Grammar T) where
   next-tail : (m m′ : Marking T) → Meets (rulesOf g) m → Meets (rulesOf g) m′ → (k : ℕ) → take k (m .pieces) ≡ take k (m′ .pieces)
       → (q : Piece) → At (m .pieces) k q → role (q .kind) ≡ trailing → At (m′ .pieces) k q
   next-tail m m′ c c′ k e q at r =
-      let f : FollowsLink m k = c .no-other-tails k q at r in
+      let f : FollowsTaken m k = c .no-other-tails k q at r in
       let j : ℕ = f .to in
       let n : k ≡ suc j = omega (arith, f .next) in
       let h : j < k = omega arith in
-      let d : Plays closing (m .pieces) j = link-pair c (f .from) j (f .with-tail) (f .linked) .closed in
-      let l : m′ .links (f .from) j ≡ some (f .with-tail) = same-link k g m m′ c c′ k e (f .from) j (f .with-tail) h h (f .linked) in
+      let d : Plays closing (m .pieces) j = taken-pair c (f .sort) (f .from) j (f .with-tail) (f .taken) .closed in
+      let l : chosen (f .sort) m′ (f .from) j ≡ some (f .with-tail) = same-taken k g m m′ c c′ k e (f .sort) (f .from) j (f .with-tail) h h (f .taken) in
       let x : Piece = tailPiece (d .piece) (g .lengthOf (f .with-tail)) in
-      let u : At (m .pieces) (suc j) x = c .tails (f .from) j (f .with-tail) (d .piece) (f .linked) (d .at) in
-      let v : At (m′ .pieces) (suc j) x = c′ .tails (f .from) j (f .with-tail) (d .piece) l (sym (same-at k (m .pieces) (m′ .pieces) j e h) ∙ d .at) in
+      let u : At (m .pieces) (suc j) x = c .tails (f .sort) (f .from) j (f .with-tail) (d .piece) (f .taken) (d .at) in
+      let v : At (m′ .pieces) (suc j) x = c′ .tails (f .sort) (f .from) j (f .with-tail) (d .piece) l (sym (same-at k (m .pieces) (m′ .pieces) j e h) ∙ d .at) in
       ap (getElem? (m′ .pieces)) n ∙ v ∙ sym u ∙ ap (getElem? (m .pieces)) (sym n) ∙ at
 
   next : (m m′ : Marking T) → Meets (rulesOf g) m → Meets (rulesOf g) m′ → (k : ℕ) → take k (m .pieces) ≡ take k (m′ .pieces)
@@ -129,11 +130,17 @@ same-option none none f h = refl
 
 -- "Two markings are the same when they agree in all of that."
 pub agreeing-are-same : {T : Type 0} (m m′ : Marking T)
-    → m .pieces ≡ m′ .pieces → ((i j : ℕ) → m .pairs i j ≡ m′ .pairs i j) → ((i j : ℕ) → m .links i j ≡ m′ .links i j) → m ≡ m′
-agreeing-are-same m m′ a b c = λ x. record { pieces = a x; pairs = fun-ext (λ i. fun-ext (λ j. b i j)) x; links = fun-ext (λ i. fun-ext (λ j. c i j)) x }
+    → m .pieces ≡ m′ .pieces → ((i j : ℕ) → m .pairs i j ≡ m′ .pairs i j) → ((x : Sort) (i j : ℕ) → chosen x m i j ≡ chosen x m′ i j) → m ≡ m′
+agreeing-are-same m m′ a b c = λ y.
+    record {
+      pieces = a y;
+      pairs = fun-ext (λ i. fun-ext (λ j. b i j)) y;
+      links = fun-ext (λ i. fun-ext (λ j. c link i j)) y;
+      images = fun-ext (λ i. fun-ext (λ j. c image i j)) y;
+    }
 
 pub unique : {T : Type 0} (g : Grammar T) (m m′ : Marking T) → Meets (rulesOf g) m → Meets (rulesOf g) m′ → m ≡ m′
-unique g m m′ c c′ = agreeing-are-same m m′ pieces-same pairs-same links-same
+unique g m m′ c c′ = agreeing-are-same m m′ pieces-same pairs-same chosen-same
   where
     pieces-same : m .pieces ≡ m′ .pieces
     pieces-same = same-list (m .pieces) (m′ .pieces) (takes g m m′ c c′)
@@ -144,8 +151,8 @@ unique g m m′ c c′ = agreeing-are-same m m′ pieces-same pairs-same links-s
         (λ p. c′ .pairs-are i j .1 (subst (λ (l : List Piece). Paired l i j) pieces-same (c .pairs-are i j .0 p)))
         (λ p. c .pairs-are i j .1 (subst (λ (l : List Piece). Paired l i j) (sym pieces-same) (c′ .pairs-are i j .0 p)))
 
-    links-same : (i j : ℕ) → m .links i j ≡ m′ .links i j
-    links-same i j =
-        same-option (m .links i j) (m′ .links i j)
-        (λ t. same-link (suc j) g m m′ c c′ (suc j) (takes g m m′ c c′ (suc j)) i j t (omega arith) (omega arith))
-        (λ t. same-link (suc j) g m′ m c′ c (suc j) (takes g m′ m c′ c (suc j)) i j t (omega arith) (omega arith))
+    chosen-same : (x : Sort) (i j : ℕ) → chosen x m i j ≡ chosen x m′ i j
+    chosen-same x i j =
+        same-option (chosen x m i j) (chosen x m′ i j)
+        (λ t. same-taken (suc j) g m m′ c c′ (suc j) (takes g m m′ c c′ (suc j)) x i j t (omega arith) (omega arith))
+        (λ t. same-taken (suc j) g m′ m c′ c (suc j) (takes g m′ m c′ c (suc j)) x i j t (omega arith) (omega arith))

@@ -47,10 +47,11 @@ openBrackets m k = openedBefore m k - pairedBefore m k
 abbrev pub NeverOver : {T : Type 0} → ℕ → Marking T → Type 0
 NeverOver limit m = (k : ℕ) → openBrackets m k ≤ limit
 
--- "place of the first bracket too many": the opening piece at the place p is the first with which more than so many brackets are open
+-- "place of the first bracket too many": the opening piece whose `[` stands at the place p is the first with which more than so many brackets are open.
+-- "Both sorts of opening count .. for refusal 4 (its place is the `[`)": the `[` is the last byte of either
 pub record FirstOver {T : Type 0} (limit : ℕ) (m : Marking T) (p : ℕ) : Type 0 where
   pub index : ℕ
   pub bracket : Plays opening (m .pieces) index
-  pub place-is : bracket .piece .start ≡ p
+  pub place-is : bracket .piece .end ≡ suc p
   pub too-many : limit < openBrackets m (suc index)
   pub none-before : (k : ℕ) → k ≤ index → openBrackets m k ≤ limit

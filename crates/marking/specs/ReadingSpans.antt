@@ -3,13 +3,13 @@
 use mathlib.Core.Bool.{Bool, true, false}
 use mathlib.Core.Option.{Option, none, some}
 use mathlib.Core.List.{List, [], _++_}
-use Prim.Native.Nat.{ℕ, zero, suc}
+use Prim.Native.Nat.{ℕ, zero, suc, _-_}
 use lib.Dec.{ltb, leb}
 use lib.ListN.{length}
 use Rattle.marking.specs.Marking.{Role, nothing, opening, closing, trailing, role}
 use Rattle.marking.specs.Spans.{Span}
 use Rattle.marking.specs.ReadingRules.{Grammar}
-use Rattle.marking.specs.Reading.{Match, foundBy, stackBy, pieceAt, placeAfter, lastAfter, newSpans}
+use Rattle.marking.specs.Reading.{Match, sortOf, foundBy, stackBy, pieceAt, placeAfter, lastAfter, newSpans}
 
 pub record Scan (T : Type 0) : Type 0 where
   pub place : ℕ
@@ -18,7 +18,7 @@ pub record Scan (T : Type 0) : Type 0 where
   pub spans : List (Span T)
 
 unfoldable pub scanFound : {T : Type 0} → Grammar T → Scan T → Match T
-scanFound g s = foundBy (λ o. g .tailAt (g .endAt o) (s .place)) (s .last-link) (s .stack) (role (g .kindAt (s .place)))
+scanFound g s = foundBy (λ o. sortOf (g .kindAt o)) (λ o. g .tailAt (g .endAt o) (s .place)) (s .last-link) (s .stack) (role (g .kindAt (s .place)))
 
 unfoldable pub scanStep : {T : Type 0} → Grammar T → Scan T → Scan T
 scanStep g s =
@@ -54,12 +54,12 @@ tooDeep limit st trailing = false
 abbrev pub overAt : {T : Type 0} → ℕ → Grammar T → Scan T → Bool
 overAt limit g s = tooDeep limit (s .stack) (role (g .kindAt (s .place)))
 
--- the place of the first bracket too many, within n steps
+-- the place of the first bracket too many, within n steps: the last byte of its piece
 unfoldable pub overWithin : {T : Type 0} → ℕ → ℕ → Grammar T → Scan T → Option ℕ
 overWithin limit zero g s = none
 overWithin limit (suc n) g s =
     elim (ltb (s .place) (g .size)) [
-      | true ↦ elim (overAt limit g s) [ true ↦ some (s .place) | false ↦ overWithin limit n g (scanStep g s) ]
+      | true ↦ elim (overAt limit g s) [ true ↦ some (g .endAt (s .place) - 1) | false ↦ overWithin limit n g (scanStep g s) ]
       | false ↦ none
     ]
 

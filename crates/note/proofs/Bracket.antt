@@ -35,7 +35,7 @@ first-deep-bracket T place e =
     let w : Inside (T .note) q = each-inside (paragraphs-in-order (T .note)) (f .index) q there in
     let c : MarkingOf T (n .list) q (f .marking) = pair-at (n .each) (f .index) q (f .marking) (f .paragraph-at) (f .marking-at) in
     let b = f .too-many .bracket in
-    let byte = bracket-byte (c .kinds (f .too-many .index) (b .piece) (b .at) (λ t. opening≢trailing (sym (b .as-role) ∙ t))) (b .as-role) in
-    let here : getD (q .bytes) (f .within) 0 ≡ 91 = sym (ap (λ (k : ℕ). getD (q .bytes) k 0) (f .too-many .place-is)) ∙ byte in
+    let here : getD (q .bytes) (f .within) 0 ≡ 91 =
+    bracket-byte (c .kinds (f .too-many .index) (b .piece) (b .at) (λ t. opening≢trailing (sym (b .as-role) ∙ t))) (b .as-role) (f .within) (f .too-many .place-is) in
     let h : f .within < length (q .bytes) = peek-inside (q .bytes) (f .within) (λ z. omega arith) in
     (omega (arith, f .place-is, w .inside), subst (λ (k : ℕ). getD (T .note) k 0 ≡ 91) (f .place-is) (byte-there (T .note) q w (f .within) h ∙ here))

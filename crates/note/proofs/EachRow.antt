@@ -1,4 +1,4 @@
--- Demand 3: the span rows that are read are those of the links and code spans in the markings, each once, and no others, in increasing order of end.
+-- Demand 3: the span rows that are read are those of the links, images and code spans in the markings, each once, and no others, in increasing order of end.
 use Prim.Native.Nat.{ℕ, _<_}
 use native.Mathlib.Omega.{arith}
 use mathlib.Core.Path.{_≡_, subst}

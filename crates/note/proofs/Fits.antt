@@ -7,7 +7,7 @@ use mathlib.Core.List.{List}
 use lib.ListN.{length, getD, length-map}
 use Rattle.marking.specs.Marking.{Marking}
 use Rattle.scan.specs.Member.{In}
-use Rattle.marking.specs.Spans.{Span, codeSpan, linkSpan, SpanOf}
+use Rattle.marking.specs.Spans.{Span, codeSpan, pairSpan, SpanOf}
 use Rattle.texts.specs.Texts.{Texts, textOf}
 use Rattle.block.specs.Block.{Placed}
 use Rattle.row.specs.declared.Range.{Range}
@@ -77,17 +77,17 @@ module _ (T : Texts) where
 
     target-fits : (x : Span Tail) → SpanOf m x → RowWithin (q .at) (length (q .bytes)) (row x) → Fits (targetOf (q .at) (definitionsOf (joined T)) x)
     target-fits (codeSpan p) y r = record { number = omega arith; destination = absent-fits (length (T .note)); title = absent-fits (length (T .note)) }
-    target-fits (linkSpan o d (inline n a b)) y r =
-        let (l, t) = inline-parts-within (q .bytes) (labelsOf T (joined T)) m c o d n a b y in
+    target-fits (pairSpan x o d (inline n a b)) y r =
+        let (l, t) = inline-parts-within (q .bytes) (labelsOf T (joined T)) m c x o d n a b y in
         let h : q .at + (d .end + n) ≤ length (T .note) = omega (arith, w .inside, r .to) in
         record {
           number = omega arith;
           destination = part-fits (q .at) (d .end) (d .end + n) (length (T .note)) a h l;
           title = part-fits (q .at) (d .end) (d .end + n) (length (T .note)) b h t;
         }
-    target-fits (linkSpan o d (full n k)) y r = defined-fits k (numbered (linkSpan o d (full n k)) y)
-    target-fits (linkSpan o d (collapsed k)) y r = defined-fits k (numbered (linkSpan o d (collapsed k)) y)
-    target-fits (linkSpan o d (shortcut k)) y r = defined-fits k (numbered (linkSpan o d (shortcut k)) y)
+    target-fits (pairSpan x o d (full n k)) y r = defined-fits k (numbered (pairSpan x o d (full n k)) y)
+    target-fits (pairSpan x o d (collapsed k)) y r = defined-fits k (numbered (pairSpan x o d (collapsed k)) y)
+    target-fits (pairSpan x o d (shortcut k)) y r = defined-fits k (numbered (pairSpan x o d (shortcut k)) y)
 
     span-fits : (x : Span Tail) → SpanOf m x → RowWithin (q .at) (length (q .bytes)) (row x) → RowFits T (joined T) (row x)
     span-fits x y r =

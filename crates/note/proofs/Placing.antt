@@ -1,4 +1,4 @@
--- Where a span row comes from: a link or a code span in the marking of a paragraph that lies within the note.
+-- Where a span row comes from: a link, an image or a code span in the marking of a paragraph that lies within the note.
 use Prim.Native.Nat.{ℕ, zero, suc, _+_, _-_, _≤_, _<_}
 use native.Mathlib.Omega.{arith}
 use mathlib.Core.Path.{_≡_, refl, sym, ap, _∙_, subst}

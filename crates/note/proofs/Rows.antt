@@ -1,4 +1,4 @@
--- The members of the list of rows: the rows of the links and code spans in the markings, and no others.
+-- The members of the list of rows: the rows of the links, images and code spans in the markings, and no others.
 use Prim.Native.Nat.{ℕ, zero, suc}
 use mathlib.Core.Path.{_≡_, refl, sym, subst}
 use mathlib.Core.Logic.{_↔_, ⊎-elim}
@@ -80,7 +80,7 @@ module _ (T : Texts) (js : List Listed) (row : List ℕ) where
   rows-in (Forall₂·cons {a = p} {l₁ = ps} c t) (suc k) q m e d i = in-back (here p) (rowsIn (T .note) (labelsOf T js) (definitionsOf js) ps) row (rows-in t k q m e d i)
 
 module _ (T : Texts) (n : Marked T) (row : List ℕ) where
-  -- a row is read exactly where it is that of a link or a code span
+  -- a row is read exactly where it is that of a link, an image or a code span
   pub in-rows-iff : In row (spanRows T) ↔ RowOf (T .note) (definitionsOf (n .list)) (n .paragraphs) (n .markings) row
   unfolding spanRows labels
   in-rows-iff =

@@ -16,11 +16,11 @@ use Rattle.joined.specs.Reading.{joined}
 use Rattle.joined.proofs.Joined.{joined-some}
 use Rattle.note.specs.Note.{EachRowOnce, FirstDeep, NeverDeep}
 use Rattle.note.specs.Reading.{labels, rowsIn, spanRows, deepIn, firstDeep}
-use Rattle.note.specs.Samples.{Sample, samples, with-sheet, textsOf, readOne, brackets, openings, two, alone, partsOf, holds, Edges}
+use Rattle.note.specs.Samples.{Sample, samples, with-sheet, with-images, textsOf, readOne, brackets, openings, two, openers, pictures, by-turns, one-more, alone, partsOf, holds, Edges}
 use Rattle.note.proofs.Members.{mapped-at}
 use Rattle.note.proofs.EachRow.{each-row-iff}
 use Rattle.note.proofs.Depth.{first-deep-iff, never-deep-iff}
-use Rattle.note.proofs.Openings.{deep-openings, rows-openings}
+use Rattle.note.proofs.Openings.{deep-opened, rows-opened, deep-openings, rows-openings}
 
 -- the sample's rows are those that the law gives its note
 pub record ByLaw (x : Sample) : Type 0 where
@@ -46,6 +46,9 @@ samples-by-law = by-law samples (holds .bench)
 
 pub sheets-by-law : (x : Sample) → In x with-sheet → ByLaw x
 sheets-by-law = by-law with-sheet (holds .sheets)
+
+pub images-by-law : (x : Sample) → In x with-images → ByLaw x
+images-by-law = by-law with-images (holds .images)
 
 -- ---- brackets open: the paragraphs are computed, what is read of each is known
 module _ (T : Texts) {ps : List Placed} (j : joined T ≡ []) (p : paragraphs (T .note) ≡ ps) where
@@ -82,8 +85,17 @@ edges =
       deep-sheet =
           deep-by (texts (brackets 1024) (brackets 1025)) (holds .deep-sheet) (ap (λ (x : List Listed × List Placed). x .1) (holds .parts-1024))
           ∙ deep-openings [] 0 1024 [];
+      shallow-images = deep-alone (openers (pictures 1024)) (holds .parts-images) ∙ deep-opened [] 0 [] (pictures 1024);
+      deep-images = deep-alone (openers (pictures 1025)) (holds .parts-deep-images) ∙ deep-opened [] 0 [] (pictures 1025);
+      shallow-turns = deep-alone (openers (by-turns 512)) (holds .parts-turns) ∙ deep-opened [] 0 [] (by-turns 512);
+      deep-turns = deep-alone (openers (one-more 512)) (holds .parts-deep-turns) ∙ deep-opened [] 0 [] (one-more 512);
+      no-image = rows-alone (openers (by-turns 512)) (holds .parts-turns) ∙ rows-opened [] 0 [] (by-turns 512) (openers (by-turns 512)) [];
     }
 
 -- and by the law
-pub edges-by-law : NeverDeep (alone (brackets 1024)) × FirstDeep (alone (brackets 1025)) 1024
-edges-by-law = (never-deep-iff (alone (brackets 1024)) .0 (edges .shallow), first-deep-iff (alone (brackets 1025)) 1024 .0 (edges .deep))
+pub edges-by-law : NeverDeep (alone (brackets 1024)) × FirstDeep (alone (brackets 1025)) 1024 × FirstDeep (alone (openers (pictures 1025))) 2049
+edges-by-law = (
+  never-deep-iff (alone (brackets 1024)) .0 (edges .shallow),
+  first-deep-iff (alone (brackets 1025)) 1024 .0 (edges .deep),
+  first-deep-iff (alone (openers (pictures 1025))) 2049 .0 (edges .deep-images),
+)

@@ -3,10 +3,9 @@ use Prim.Native.Nat.{ℕ, _+_, _-_, _≤_}
 use mathlib.Core.Path.{_≡_}
 use mathlib.Core.Logic.{_↔_}
 use mathlib.Core.Option.{some}
-use mathlib.Core.Bool.{cond}
+use mathlib.Core.Bool.{true, cond}
 use mathlib.Core.List.{List, [], _∷_}
 use lib.ListN.{length, getD, take, drop, getElem?}
-use lib.Dec.{eqb}
 use Rattle.scan.specs.Member.{In}
 use Rattle.line.specs.Line.{lineOf}
 use Rattle.marking.specs.Claims.{ExactlyOne}
@@ -15,7 +14,7 @@ use Rattle.block.specs.Block.{Placed}
 use Rattle.row.specs.declared.Range.{Range}
 use Rattle.row.specs.Row.{range, Listed}
 use Rattle.row.specs.First.{bytesOf, labelsOf, namedText, FirstEqual}
-use Rattle.span.specs.Row.{width, fullKind, definitionNumber}
+use Rattle.span.specs.Row.{width, isFull, isReference, definitionNumber}
 use Rattle.inline.specs.Paragraph.{rules}
 use Rattle.inline.specs.Rows.{rowEnd}
 use Rattle.note.specs.Note.{Marked, SpanRowsAre, EachRowOnce}
@@ -44,7 +43,7 @@ pub record RowFits (T : Texts) (js : List Listed) (row : List ℕ) : Type 0 wher
 
 -- where the label stands that a reference row was looked up by: between the second brackets of a full reference, else between the first
 abbrev pub lookedUp : List ℕ → Range
-lookedUp row = cond (eqb (getD row 0 0) fullKind) (range (getD row 4 0 + 2) (rowEnd row - 1)) (range (getD row 3 0) (getD row 4 0))
+lookedUp row = cond (isFull (getD row 0 0)) (range (getD row 4 0 + 2) (rowEnd row - 1)) (range (getD row 3 0) (getD row 4 0))
 
 -- "Lookup takes the note's definitions first, then the sheet's, first equal label wins"; "A reference's definition is the one that demand 2 names; its destination
 -- and title are that definition's." js is the joined list of the texts T.
@@ -64,13 +63,13 @@ pub record RefersTo (T : Texts) (js : List Listed) (row : List ℕ) : Type 0 whe
 pub record Demand3 (T : Texts) : Type 0 where
   -- "Exactly one marking of each paragraph meets them, for every well-formed note within the length limit, refused or not."
   pub one-marking-each : OneMarkingEach T
-  -- "Span rows are those of the links and code spans of these markings, each once, no others, equal in every number, in order of end."
+  -- "Span rows are those of the links and code spans of these markings, each once, no others, equal in every number, in order of end", and of their images
   pub rows : List (List ℕ)
   pub each-row-once : EachRowOnce T rows
   pub no-other-rows : (others : List (List ℕ)) → EachRowOnce T others → others ≡ rows
   pub each-at-one-place : (i j : ℕ) (row : List ℕ) → getElem? rows i ≡ some row → getElem? rows j ≡ some row → i ≡ j
   -- what follows: paragraph after paragraph they are the same rows
   pub by-paragraph : (others : List (List ℕ)) → EachRowOnce T others ↔ SpanRowsAre T others
-  -- what stands in a row; of demand 2, what stands in a row of the kinds 3, 4 and 5
+  -- what stands in a row; of demand 2, what stands in a row of the kinds 3, 4 and 5, and, as its "list gains images", 7, 8 and 9
   pub fits : (n : Marked T) (row : List ℕ) → In row rows → RowFits T (n .list) row
-  pub refers : (n : Marked T) (row : List ℕ) → In row rows → fullKind ≤ getD row 0 0 → RefersTo T (n .list) row
+  pub refers : (n : Marked T) (row : List ℕ) → In row rows → isReference (getD row 0 0) ≡ true → RefersTo T (n .list) row

@@ -41,7 +41,7 @@ pub record Marked (T : Texts) : Type 0 where
   pub each : MarkingsAre T list paragraphs markings
 
 -- ---- span rows
--- row is that of a link or a code span in the marking of one of these paragraphs of the note s
+-- row is that of a link, an image or a code span in the marking of one of these paragraphs of the note s
 pub record RowOf (s : List ℕ) (ds : List Definition) (ps : List Placed) (ms : List (Marking Tail)) (row : List ℕ) : Type 0 where
   pub index : ℕ
   pub paragraph : Placed
@@ -52,8 +52,9 @@ pub record RowOf (s : List ℕ) (ds : List Definition) (ps : List Placed) (ms : 
   pub of-marking : SpanOf marking span
   pub row-is : RowIs s (paragraph .at) (paragraph .bytes) ds span row
 
--- "Demand 3 compares them whole, number for number, with the rows that this section makes of the links and code spans in the markings": the rows
--- of all of these and nothing else. "Rows stand in increasing order of end", so that each stands there once.
+-- "Demand 3 compares them whole, number for number, with the rows that this section makes of the links and code spans in the markings", and document 02, request 5:
+-- "the rows of demand 3 are those of the images of the markings too": the rows of all of these and nothing else. "Rows stand in increasing order of end",
+-- so that each stands there once.
 pub record EachRowOnce (T : Texts) (rows : List (List ℕ)) : Type 0 where
   pub marked : Marked T
   pub each : (row : List ℕ) → RowOf (T .note) (definitionsOf (marked .list)) (marked .paragraphs) (marked .markings) row → In row rows

@@ -1,6 +1,6 @@
 -- "Samples on the bench": the notes P1 to P13 of document 01 with their definition rows and their span rows; beside them its whole example, a note
--- over many lines, notes with a sheet, and notes with 1,024 and 1,025 brackets open.
-use Prim.Native.Nat.{ℕ}
+-- over many lines, notes with a sheet, notes with images, and notes with 1,024 and 1,025 brackets open.
+use Prim.Native.Nat.{ℕ, zero, suc}
 use Prim.Native.String.{String}
 use mathlib.Core.Path.{_≡_, refl}
 use mathlib.Core.Option.{none, some}
@@ -13,6 +13,7 @@ use Rattle.text.specs.Sequences.{onesFrom, leadingOnes, sequenceLength, charact
 use Rattle.label.specs.Reading.{inky, fitsAfter, fits, labelEnd, unclosed, isLabel}
 use Rattle.target.specs.Reading.{spaceFrom, depthAfter, rawStep, rawRun, judged, destinationOf, closer, titleOf}
 use Rattle.matching.specs.Reading.{lower, pair, codeOf, foldsFrom, spaced, squeeze, compared, equals, matches}
+use Rattle.marking.specs.Marking.{Sort, link, image}
 use Rattle.marking.specs.ReadingSpans.{spans, finish, scan, scanStep, scanFound, scanStart, over, overs, overWithin}
 use Rattle.block.specs.Reading.{blankLine, lineLength, blockRest, blockLength, partLength, blockHere, blocks}
 use Rattle.block.specs.Block.{Placed}
@@ -89,6 +90,25 @@ with-sheet =
     ∷ beside "[x]: /u" "[x](/i) [y][x]" (of-sheet 1 2 5 7 0 0 1 ∷ []) (eleven 2 0 7 1 2 0 4 6 0 0 1 ∷ eleven 3 8 14 9 10 1 5 7 0 0 1 ∷ [])
     ∷ []
 
+-- with images: the first five are the standard's, from its sections on images and on links
+abbrev pub with-images : List Sample
+with-images =
+    -- "An image may hold links and images"
+    sample "![foo ![bar](/url)](/url2)" [] (eleven 6 6 18 8 11 0 13 17 0 0 1 ∷ eleven 6 0 26 2 18 0 20 25 0 0 1 ∷ [])
+    ∷ sample "![foo [bar](/url)](/url2)" [] (eleven 2 6 17 7 10 0 12 16 0 0 1 ∷ eleven 6 0 25 2 17 0 19 24 0 0 1 ∷ [])
+    ∷ sample "![[[foo](uri1)](uri2)](uri3)" [] (eleven 2 3 14 4 7 0 9 13 0 0 1 ∷ eleven 6 0 28 2 21 0 23 27 0 0 1 ∷ [])
+    -- "A link may hold an image"
+    ∷ sample "[![moon](moon.jpg)](/uri)" [] (eleven 6 1 18 3 7 0 9 17 0 0 1 ∷ eleven 2 0 25 1 18 0 20 24 0 0 1 ∷ [])
+    -- "`\![` is an escape and an ordinary opening"
+    ∷ sample "\\![foo]\n\n[foo]: /url \"title\"" (of-note 10 13 16 20 22 27 3 ∷ []) (eleven 5 2 7 3 6 1 16 20 22 27 1 ∷ [])
+    -- "but no link at any depth, through images too"
+    ∷ sample "[![[a](b)](c)](d)" [] (eleven 2 3 9 4 5 0 7 8 0 0 1 ∷ eleven 6 1 13 3 9 0 11 12 0 0 1 ∷ [])
+    -- references by a sheet's definition
+    ∷ beside "[p]: /s 'x'" "![a][p] ![p][] ![p]" (of-sheet 1 2 5 7 9 10 1 ∷ []) (eleven 7 0 7 2 3 1 5 7 9 10 1 ∷ eleven 8 8 14 10 11 1 5 7 9 10 1 ∷ eleven 9 15 19 17 18 1 5 7 9 10 1 ∷ [])
+    -- over two lines; and a `!` that a line's end parts from its `[`
+    ∷ sample "![a\nb](c)!\n[d](e)" [] (eleven 6 0 9 2 5 0 7 8 0 0 1 ∷ eleven 2 11 17 12 13 0 15 16 0 0 3 ∷ [])
+    ∷ []
+
 abbrev pub textsOf : Sample → Texts
 textsOf x = texts (ascii (x .note)) (ascii (x .sheet))
 
@@ -107,6 +127,31 @@ openings at n = record { at = at; bytes = brackets n }
 abbrev pub two : ℕ → ℕ → List ℕ
 two n m = brackets n ++ 10 ∷ 10 ∷ brackets m
 
+-- ---- openings of either sort
+abbrev pub opener : Sort → List ℕ
+opener link = 91 ∷ []
+opener image = 33 ∷ 91 ∷ []
+
+abbrev pub openers : List Sort → List ℕ
+openers [] = []
+openers (x ∷ xs) = opener x ++ openers xs
+
+-- a paragraph of them
+abbrev pub opened : ℕ → List Sort → Placed
+opened at xs = record { at = at; bytes = openers xs }
+
+abbrev pub pictures : ℕ → List Sort
+pictures n = replicate n image
+
+-- `[![` so many times
+abbrev pub by-turns : ℕ → List Sort
+by-turns zero = []
+by-turns (suc n) = link ∷ image ∷ by-turns n
+
+-- and then `[`
+abbrev pub one-more : ℕ → List Sort
+one-more n = by-turns n ++ link ∷ []
+
 -- the note s with an empty sheet
 abbrev pub alone : List ℕ → Texts
 alone s = texts s []
@@ -119,6 +164,7 @@ pub record Holds : Type 0 where
   pub example : readOne whole-example ≡ whole-example
   pub lines : readOne over-lines ≡ over-lines
   pub sheets : map readOne with-sheet ≡ with-sheet
+  pub images : map readOne with-images ≡ with-images
   -- "A formulary import has lists in square brackets 70 deep."
   pub seventy : firstDeep (alone (brackets 70 ++ replicate 70 93)) ≡ none
   pub parts-1024 : partsOf (brackets 1024) ≡ ([], openings 0 1024 ∷ [])
@@ -126,9 +172,13 @@ pub record Holds : Type 0 where
   pub parts-two : partsOf (two 1024 1024) ≡ ([], openings 0 1024 ∷ openings 1026 1024 ∷ [])
   pub parts-later : partsOf (two 5 1025) ≡ ([], openings 0 5 ∷ openings 7 1025 ∷ [])
   pub deep-sheet : joined (texts (brackets 1024) (brackets 1025)) ≡ []
+  pub parts-images : partsOf (openers (pictures 1024)) ≡ ([], opened 0 (pictures 1024) ∷ [])
+  pub parts-deep-images : partsOf (openers (pictures 1025)) ≡ ([], opened 0 (pictures 1025) ∷ [])
+  pub parts-turns : partsOf (openers (by-turns 512)) ≡ ([], opened 0 (by-turns 512) ∷ [])
+  pub parts-deep-turns : partsOf (openers (one-more 512)) ≡ ([], opened 0 (one-more 512) ∷ [])
 
--- As many brackets open as may be, and one more. A scan of so many pieces costs too much to be computed: what is read of opening brackets alone
--- is known for every number of them.
+-- As many brackets open as may be, and one more. A scan of so many pieces costs too much to be computed: what is read of openings alone is known for
+-- every list of them.
 pub record Edges : Type 0 where
   pub shallow : firstDeep (alone (brackets 1024)) ≡ none
   pub deep : firstDeep (alone (brackets 1025)) ≡ some 1024
@@ -138,6 +188,12 @@ pub record Edges : Type 0 where
   pub no-span : spanRows (alone (brackets 1024)) ≡ []
   -- "refusal 4 reads the note only"
   pub deep-sheet : firstDeep (texts (brackets 1024) (brackets 1025)) ≡ none
+  -- "Both sorts of opening count for pairing and for refusal 4 (its place is the `[`)"
+  pub shallow-images : firstDeep (alone (openers (pictures 1024))) ≡ none
+  pub deep-images : firstDeep (alone (openers (pictures 1025))) ≡ some 2049
+  pub shallow-turns : firstDeep (alone (openers (by-turns 512))) ≡ none
+  pub deep-turns : firstDeep (alone (openers (one-more 512))) ≡ some 1536
+  pub no-image : spanRows (alone (openers (by-turns 512))) ≡ []
 
 pub holds : Holds
 unfolding feeds lineOf scanBytes run past leap closingStep closing onesFrom leadingOnes sequenceLength characters inky fitsAfter fits labelEnd unclosed isLabel
@@ -146,4 +202,21 @@ unfolding feeds lineOf scanBytes run past leap closingStep closing onesFrom lead
     definition.lineAfter definition.titleAfter definition.endingAfter definition.afterLabel definition.afterIndent definition.definitionAt definition.takingFrom definition.definitionsFrom
     definition.paragraphEnd definition.paragraphFrom definition.definitionsOf definition.paragraphOf definition.definitionsIn definition.paragraphsIn definitions paragraphs
     countAfter runStep runDone closingRun pieceFrom closedAt afterDestination inlineOf labelAfter textTail tailOf joined labels rowsIn spanRows deepIn firstDeep
-holds = record { bench = refl; example = refl; lines = refl; sheets = refl; seventy = refl; parts-1024 = refl; parts-1025 = refl; parts-two = refl; parts-later = refl; deep-sheet = refl }
+holds =
+    record {
+      bench = refl;
+      example = refl;
+      lines = refl;
+      sheets = refl;
+      images = refl;
+      seventy = refl;
+      parts-1024 = refl;
+      parts-1025 = refl;
+      parts-two = refl;
+      parts-later = refl;
+      deep-sheet = refl;
+      parts-images = refl;
+      parts-deep-images = refl;
+      parts-turns = refl;
+      parts-deep-turns = refl;
+    }

@@ -3,7 +3,7 @@ use Prim.Native.Nat.{ℕ, _*_, _≤_}
 use mathlib.Core.Path.{_≡_}
 use mathlib.Core.Logic.{_↔_}
 use mathlib.Core.List.{List, _++_}
-use mathlib.Core.Bool.{Bool}
+use mathlib.Core.Bool.{Bool, true}
 use lib.ListN.{length, getD, drop}
 use Rattle.refusal.specs.Given.{Given, GivenFor}
 use Rattle.text.specs.Utf8.{FirstBad}
@@ -53,11 +53,11 @@ pub record DefinitionRows (T : Texts) (t t′ : List ℕ) : Type 0 where
 -- Demand 3, and demand 2 of references: the table u has become u′.
 pub record SpanRows (T : Texts) (u u′ : List ℕ) : Type 0 where
   pub rows : List (List ℕ)
-  -- those of the links and code spans in the markings, each once, no others
+  -- those of the links, images and code spans in the markings, each once, no others
   pub each-once : EachRowOnce T rows
   pub no-other-rows : (others : List (List ℕ)) → EachRowOnce T others → others ≡ rows
-  -- rows of the kinds 3, 4 and 5: "Lookup takes the note's definitions first, then the sheet's, first equal label wins"
-  pub refer : (row : List ℕ) → In row rows → spanTable.fullKind ≤ getD row 0 0 → RefersTo T (each-once .marked .list) row
+  -- rows of the kinds 3, 4 and 5, and 7, 8 and 9: "Lookup takes the note's definitions first, then the sheet's, first equal label wins"
+  pub refer : (row : List ℕ) → In row rows → spanTable.isReference (getD row 0 0) ≡ true → RefersTo T (each-once .marked .list) row
   pub fit : length rows ≤ spanTable.wholeRows u
   pub holds : u′ ≡ spanNumbers rows ++ drop (length rows * spanTable.width) u
 

@@ -5,6 +5,7 @@ use native.Mathlib.Omega.{arith}
 use mathlib.Core.Path.{_≡_, refl, sym, ap, _∙_, subst}
 use mathlib.Core.Logic.{_↔_}
 use mathlib.Core.Option.{some, Option·none-ne-some}
+use mathlib.Core.Bool.{Bool, true, false}
 use mathlib.Core.List.{List, [], _∷_, _++_, flatMap, append-nil, Forall₂·nil, Forall₂·cons}
 use lib.ListN.{length, getElem?}
 use Rattle.scan.specs.Member.{In}
@@ -25,8 +26,8 @@ use Rattle.note.proofs.Markings.{marked}
 use Rattle.note.proofs.Placing.{each-inside}
 use Rattle.note.proofs.EachRow.{each-row-iff}
 use Rattle.code.specs.Code.{CodeElement}
-use Rattle.html.specs.Tags.{LinkOpen, paragraphOpen, paragraphClose}
-use Rattle.page.specs.Page.{PageIs}
+use Rattle.html.specs.Tags.{paragraphOpen, paragraphClose}
+use Rattle.page.specs.Page.{OpenTag, CloseTag, PageIs}
 use Rattle.page.specs.ByRows.{spanOf, textFor, RangeIs, ParagraphBy, paragraph, ByRows, none, more}
 use Rattle.page.specs.ByRows as by-rows
 use Rattle.page.specs.Reading.{contentFrom, paragraphPage, pageBy, pageOf}
@@ -96,7 +97,7 @@ module _ (T : Texts) where
         only = paragraph-only T (n .list) q m c w (spanRows T) h;
       }
 
-  called-iff : (w : List ℕ) → (pageOf T ≡ w) ↔ ByRows T (joined T) (spanRows T) (paragraphs (T .note)) w
+  pub called-iff : (w : List ℕ) → (pageOf T ≡ w) ↔ ByRows T (joined T) (spanRows T) (paragraphs (T .note)) w
   unfolding pageOf pageBy
   called-iff w = (
     (λ e. subst (ByRows T (joined T) (spanRows T) (paragraphs (T .note))) e (pages-called T (joined T) (spanRows T) (paragraphs (T .note)) each-called)),
@@ -122,17 +123,28 @@ module _ (T : Texts) where
 
 -- ---- of the texts it depends on nothing but the paragraphs and the bytes that the rows name
 module _ (T : Texts) (js : List Listed) (T′ : Texts) (js′ : List Listed) (rows : List (List ℕ)) (same : (row : List ℕ) → In row rows → SameParts T js T′ js′ row) where
+  same-described : (q : Placed) (a : ℕ) → by-rows.Described T js rows q a → by-rows.Described T′ js′ rows q a
+  same-described q a d = record { row = d .row; is-row = d .is-row; is-image = d .is-image; inside = d .inside }
+
+  back-described : (q : Placed) (a : ℕ) → by-rows.Described T′ js′ rows q a → by-rows.Described T js rows q a
+  back-described q a d = record { row = d .row; is-row = d .is-row; is-image = d .is-image; inside = d .inside }
+
+  same-tags : (q : Placed) (b : Bool) (a : ℕ) → by-rows.Tags T js rows q b a → by-rows.Tags T′ js′ rows q b a
+  same-tags q true a f = λ d. f (back-described q a d)
+  same-tags q false a f = same-described q a f
+
   same-range : (q : Placed) {a b : ℕ} {w : List ℕ} → RangeIs T js rows q a b w → RangeIs T′ js′ rows q a b w
   same-range q by-rows.nothing = by-rows.nothing
   same-range q (by-rows.beside x y) = by-rows.beside (same-range q x) (same-range q y)
   same-range q (by-rows.escape f e) = by-rows.escape f e
   same-range q (by-rows.byte f l e) = by-rows.byte f l e
-  same-range q (by-rows.code-span {row} {w = w} i k e c) = by-rows.code-span i k e (subst (λ (x : List ℕ). CodeElement x w) (same row i .text-same) c)
-  same-range q (by-rows.link {row} {o = o} i k e d p r) =
-      by-rows.link i k e d
-      (subst (λ (x : List ℕ). LinkOpen (bytesOf (textFor T′ js′ row) (spanOf row .destination)) x o) (same row i .title-same)
-      (subst (λ (x : List ℕ). LinkOpen x (bytesOf (textFor T js row) (spanOf row .title)) o) (same row i .destination-same) p))
-      (same-range q r)
+  same-range q (by-rows.code-span {tags = tags} {row = row} {w = w} i k e u c) =
+      by-rows.code-span i k e (same-tags q tags _ u) (subst (λ (x : List ℕ). CodeElement tags x w) (same row i .text-same) c)
+  same-range q (by-rows.pair x tags {row = row} {o = o} {e = z} i k e d u p p′ r) =
+      by-rows.pair x tags i k e d (same-tags q tags _ u)
+      (subst (λ (y : List ℕ). OpenTag x (bytesOf (textFor T′ js′ row) (spanOf row .destination)) y o) (same row i .title-same)
+      (subst (λ (y : List ℕ). OpenTag x y (bytesOf (textFor T js row) (spanOf row .title)) o) (same row i .destination-same) p))
+      (subst (λ (y : List ℕ). CloseTag x y z) (same row i .title-same) p′) (same-range q r)
 
   same-paragraph : {q : Placed} {w : List ℕ} → ParagraphBy T js rows q w → ParagraphBy T′ js′ rows q w
   same-paragraph {q} (paragraph r) = paragraph (same-range q r)

@@ -7,10 +7,10 @@ use mathlib.Core.Logic.{_≢_, _↔_}
 use mathlib.Core.Option.{some, Option·some-injective, Option·none-ne-some}
 use mathlib.Core.List.{List, [], _∷_, _++_, flatMap}
 use lib.ListN.{length, getElem?}
-use Rattle.marking.specs.Marking.{Kind, escape, code, plain, opens, closes, tail, Role, nothing, opening, closing, trailing, role, Piece, Marking, At, Tiles, Paired, tailPiece, FollowsLink}
-use Rattle.marking.specs.Spans.{LinkOf}
+use Rattle.marking.specs.Marking.{Sort, Kind, escape, code, plain, closes, tail, opens, Role, nothing, opening, closing, trailing, role, Piece, Marking, At, Tiles, Paired, tailPiece, FollowsTaken}
+use Rattle.marking.specs.Spans.{TakenOf}
 use Rattle.marking.proofs.Roles.{nothing≢trailing, opening≢trailing, closing≢trailing, trailing≢closing}
-use Rattle.marking.proofs.Pairs.{link-pair}
+use Rattle.marking.proofs.Pairs.{taken-pair}
 use Rattle.texts.specs.Texts.{Texts}
 use Rattle.block.specs.Block.{Placed}
 use Rattle.row.specs.Row.{Listed}
@@ -58,9 +58,9 @@ trails-or-not : (x : Piece) (k : Kind) → x .kind ≡ k → Trails x
 trails-or-not x escape e = others (λ z. nothing≢trailing (ap role (sym e) ∙ z))
 trails-or-not x code e = others (λ z. nothing≢trailing (ap role (sym e) ∙ z))
 trails-or-not x plain e = others (λ z. nothing≢trailing (ap role (sym e) ∙ z))
-trails-or-not x opens e = others (λ z. opening≢trailing (ap role (sym e) ∙ z))
 trails-or-not x closes e = others (λ z. closing≢trailing (ap role (sym e) ∙ z))
 trails-or-not x tail e = trails e
+trails-or-not x (opens s) e = others (λ z. opening≢trailing (ap role (sym e) ∙ z))
 
 module _ (T : Texts) (js : List Listed) (q : Placed) (m : Marking Tail) (c : MarkingOf T js q m) (w : Inside (T .note) q) (rows : List (List ℕ)) (h : RowsHere T js q m rows) where
   abbrev rest : ℕ → List ℕ
@@ -69,14 +69,14 @@ module _ (T : Texts) (js : List Listed) (q : Placed) (m : Marking Tail) (c : Mar
   abbrev written : Piece → List ℕ
   written x = pieceText T js rows q x
 
-  -- after a piece that closes no link stands no tail
-  no-tail-after : (k : ℕ) (x : Piece) → At (m .pieces) k x → ((o : Piece) (t : Tail) → LinkOf m o x t → ⊥) → (y : Piece) → At (m .pieces) (suc k) y → role (y .kind) ≢ trailing
+  -- after a piece that closes neither a link nor an image stands no tail
+  no-tail-after : (k : ℕ) (x : Piece) → At (m .pieces) k x → ((s : Sort) (o : Piece) (t : Tail) → TakenOf m s o x t → ⊥) → (y : Piece) → At (m .pieces) (suc k) y → role (y .kind) ≢ trailing
   no-tail-after k x a n y b e =
-      let f : FollowsLink m (suc k) = c .no-other-tails (suc k) y b e in
-      let pair : Paired (m .pieces) (f .from) (f .to) = link-pair c (f .from) (f .to) (f .with-tail) (f .linked) in
+      let f : FollowsTaken m (suc k) = c .no-other-tails (suc k) y b e in
+      let pair : Paired (m .pieces) (f .from) (f .to) = taken-pair c (f .sort) (f .from) (f .to) (f .with-tail) (f .taken) in
       let to : k ≡ f .to = omega (arith, f .next) in
-      n (pair .opened .piece) (f .with-tail)
-      (record { from = f .from; to = f .to; linked = f .linked; open-at = pair .opened .at; close-at = ap (getElem? (m .pieces)) (sym to) ∙ a })
+      n (f .sort) (pair .opened .piece) (f .with-tail)
+      (record { from = f .from; to = f .to; taken = f .taken; open-at = pair .opened .at; close-at = ap (getElem? (m .pieces)) (sym to) ∙ a })
 
   module _ (k : ℕ) (x : Piece) (xs : List Piece) (here : (j : ℕ) → getElem? (x ∷ xs) j ≡ getElem? (m .pieces) (k + j)) where
     first-at : At (m .pieces) k x
@@ -85,23 +85,23 @@ module _ (T : Texts) (js : List Listed) (q : Placed) (m : Marking Tail) (c : Mar
     second-at : getElem? xs 0 ≡ getElem? (m .pieces) (suc k)
     second-at = let z : k + 1 ≡ suc k = omega arith in here 1 ∙ ap (getElem? (m .pieces)) z
 
-    after-none : ((o : Piece) (t : Tail) → LinkOf m o x t → ⊥) → goesOn (x .end) xs ≡ x .end
+    after-none : ((s : Sort) (o : Piece) (t : Tail) → TakenOf m s o x t → ⊥) → goesOn (x .end) xs ≡ x .end
     after-none n = goes-on-here (x .end) xs (λ y e. no-tail-after k x first-at n y (sym second-at ∙ e))
 
-    after-link : (o : Piece) (t : Tail) → LinkOf m o x t → goesOn (x .end) xs ≡ x .end + lengthOf t
-    after-link o t l =
+    after-taken : (s : Sort) (o : Piece) (t : Tail) → TakenOf m s o x t → goesOn (x .end) xs ≡ x .end + lengthOf t
+    after-taken s o t l =
         let ix : l .to ≡ k = same-index T js q m c (l .to) x k x (l .close-at) first-at quiet (omega arith) (grows T js q m c k x first-at quiet) in
-        goes-on-past (x .end) xs x (lengthOf t) (second-at ∙ ap (λ (i : ℕ). getElem? (m .pieces) (suc i)) (sym ix) ∙ c .tails (l .from) (l .to) t x (l .linked) (l .close-at))
+        goes-on-past (x .end) xs x (lengthOf t) (second-at ∙ ap (λ (i : ℕ). getElem? (m .pieces) (suc i)) (sym ix) ∙ c .tails s (l .from) (l .to) t x (l .taken) (l .close-at))
       where
         quiet : role (x .kind) ≢ trailing
-        quiet z = closing≢trailing (sym (closing-role T js q m c o x t l) ∙ z)
+        quiet z = closing≢trailing (sym (closing-role T js q m c s o x t l) ∙ z)
 
     further : (j : ℕ) → getElem? xs j ≡ getElem? (m .pieces) (suc k + j)
     further j = let z : k + suc j ≡ suc k + j = omega arith in here (suc j) ∙ ap (getElem? (m .pieces)) z
 
     one : (v : List ℕ) → v ≡ rest (goesOn (x .end) xs) → Trails x → written x ++ v ≡ rest (goesOn (x .start) (x ∷ xs))
     one v e (trails z) =
-        let n = after-none (λ o t l. trailing≢closing (ap role (sym z) ∙ closing-role T js q m c o x t l)) in
+        let n = after-none (λ s o t l. trailing≢closing (ap role (sym z) ∙ closing-role T js q m c s o x t l)) in
         rw z (e ∙ ap rest n)
     one v e (others z) = by-step (step T js q m c w rows h k x first-at z)
       where
@@ -110,7 +110,7 @@ module _ (T : Texts) (js : List Listed) (q : Placed) (m : Marking Tail) (c : Mar
 
         by-step : Stepped T js q m c w rows h x → written x ++ v ≡ rest (goesOn (x .start) (x ∷ xs))
         by-step (on n g) = ap (λ (y : List ℕ). written x ++ y) (e ∙ ap rest (after-none n)) ∙ sym g ∙ ap rest (sym start)
-        by-step (past o t l g) = ap (λ (y : List ℕ). written x ++ y) (e ∙ ap rest (after-link o t l)) ∙ sym g ∙ ap rest (sym start)
+        by-step (past s o t l g) = ap (λ (y : List ℕ). written x ++ y) (e ∙ ap rest (after-taken s o t l)) ∙ sym g ∙ ap rest (sym start)
 
   in-order : (xs : List Piece) (k a : ℕ) → ((j : ℕ) → getElem? xs j ≡ getElem? (m .pieces) (k + j)) → Tiles a xs (length (q .bytes)) → flatMap written xs ≡ rest (goesOn a xs)
   unfolding flatMap
@@ -129,7 +129,7 @@ module _ (T : Texts) (js : List Listed) (q : Placed) (m : Marking Tail) (c : Mar
       in-order (m .pieces) 0 0 z (c .tiled) ∙ at-start
     where
       first : (k : ℕ) (x : Piece) → getElem? (m .pieces) 0 ≡ some x → role (x .kind) ≢ trailing
-      first k x a e = let f : FollowsLink m 0 = c .no-other-tails 0 x a e in absurd (omega (arith, f .next))
+      first k x a e = let f : FollowsTaken m 0 = c .no-other-tails 0 x a e in absurd (omega (arith, f .next))
 
       at-start : rest (goesOn 0 (m .pieces)) ≡ contentFrom T js rows 0 (q .bytes) (q .at)
       at-start = ap rest (goes-on-here 0 (m .pieces) (first 0)) ∙ ap (contentFrom T js rows 0 (q .bytes)) (add-zero (q .at))

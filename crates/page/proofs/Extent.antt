@@ -1,4 +1,4 @@
--- How far rows reach: none is empty, a link's text ends within its span, and a span lies within its paragraph.
+-- How far rows reach: none is empty, the text of a link or an image lies within its span, and a span lies within its paragraph.
 use Prim.Native.Nat.{ℕ, _+_, _≤_, _<_}
 use native.Mathlib.Omega.{arith}
 use mathlib.Core.Path.{_≡_, ap, _∙_, subst}
@@ -7,7 +7,7 @@ use mathlib.Core.Bool.{false, true≢false}
 use lib.ListN.{length}
 use Rattle.marking.specs.Marking.{Marking}
 use Rattle.scan.specs.Member.{In}
-use Rattle.marking.specs.Spans.{Span, codeSpan, linkSpan, SpanOf}
+use Rattle.marking.specs.Spans.{Span, codeSpan, pairSpan, SpanOf}
 use Rattle.texts.specs.Texts.{Texts}
 use Rattle.block.specs.Block.{Placed}
 use Rattle.row.specs.Row.{Listed, definitionsOf}
@@ -22,24 +22,27 @@ use Rattle.note.proofs.Markings.{marked}
 use Rattle.note.proofs.Members.{pair-at}
 use Rattle.note.proofs.Rows.{in-rows-iff}
 use Rattle.note.proofs.Spans.{link-read, code-some}
-use Rattle.page.specs.Reading.{isCode, rowStart, textEnd}
+use Rattle.page.specs.Reading.{isCode, rowStart, textStart, textEnd}
 use Rattle.page.proofs.Pieces.{rowIn}
 
 module _ (T : Texts) (js : List Listed) (q : Placed) (m : Marking Tail) (c : MarkingOf T js q m) where
   span-some : (x : Span Tail) → SpanOf m x → rowStart (rowIn T js q x) < rowEnd (rowIn T js q x)
   span-some (codeSpan y) o = omega (arith, code-some (q .bytes) (labelsOf T js) m c y o)
-  span-some (linkSpan a b t) o =
-      let r = link-read (q .bytes) (labelsOf T js) m c a b t o in
-      let w = span-within (q .bytes) (labelsOf T js) m c (linkSpan a b t) o in
+  span-some (pairSpan x a b t) o =
+      let r = link-read (q .bytes) (labelsOf T js) m c x a b t o in
+      let w = span-within (q .bytes) (labelsOf T js) m c (pairSpan x a b t) o in
       omega (arith, r .some-bracket, r .one-bracket, w .text-ordered)
 
-  link-ends : (x : Span Tail) → SpanOf m x → isCode (rowIn T js q x) ≡ false
-      → (rowStart (rowIn T js q x) < textEnd (rowIn T js q x)) × (textEnd (rowIn T js q x) < rowEnd (rowIn T js q x))
-  link-ends (codeSpan y) o e = absurd (true≢false e)
-  link-ends (linkSpan a b t) o e =
-      let r = link-read (q .bytes) (labelsOf T js) m c a b t o in
-      let w = span-within (q .bytes) (labelsOf T js) m c (linkSpan a b t) o in
-      (omega (arith, r .some-bracket, w .text-ordered), omega (arith, r .one-bracket))
+  -- the text of a row
+  abbrev TextLies : List ℕ → Type 0
+  TextLies r = (rowStart r < textStart r) × (textStart r ≤ textEnd r) × (textEnd r < rowEnd r)
+
+  pub pair-ends : (x : Span Tail) → SpanOf m x → isCode (rowIn T js q x) ≡ false → TextLies (rowIn T js q x)
+  pair-ends (codeSpan y) o e = absurd (true≢false e)
+  pair-ends (pairSpan x a b t) o e =
+      let r = link-read (q .bytes) (labelsOf T js) m c x a b t o in
+      let w = span-within (q .bytes) (labelsOf T js) m c (pairSpan x a b t) o in
+      (omega (arith, r .some-bracket), omega (arith, w .text-ordered), omega (arith, r .one-bracket))
 
 module _ (T : Texts) (n : Marked T) where
   -- the row of a span as it is read
@@ -62,9 +65,9 @@ module _ (T : Texts) where
       let c = pair-at (marked T .each) (r .index) (r .paragraph) (r .marking) (r .paragraph-at) (r .marking-at) in
       subst (λ (x : List ℕ). rowStart x < rowEnd x) (read T (marked T) row r) (span-some T (marked T .list) (r .paragraph) (r .marking) c (r .span) (r .of-marking))
 
-  pub link-text : (row : List ℕ) → In row (spanRows T) → isCode row ≡ false → (rowStart row < textEnd row) × (textEnd row < rowEnd row)
+  pub link-text : (row : List ℕ) → In row (spanRows T) → isCode row ≡ false → (rowStart row < textStart row) × (textStart row ≤ textEnd row) × (textEnd row < rowEnd row)
   link-text row i e =
       let r = in-rows-iff T (marked T) row .0 i in
       let c = pair-at (marked T .each) (r .index) (r .paragraph) (r .marking) (r .paragraph-at) (r .marking-at) in
-      subst (λ (x : List ℕ). (rowStart x < textEnd x) × (textEnd x < rowEnd x)) (read T (marked T) row r)
-      (link-ends T (marked T .list) (r .paragraph) (r .marking) c (r .span) (r .of-marking) (ap isCode (read T (marked T) row r) ∙ e))
+      subst (λ (x : List ℕ). (rowStart x < textStart x) × (textStart x ≤ textEnd x) × (textEnd x < rowEnd x)) (read T (marked T) row r)
+      (pair-ends T (marked T .list) (r .paragraph) (r .marking) c (r .span) (r .of-marking) (ap isCode (read T (marked T) row r) ∙ e))

@@ -3,6 +3,7 @@ use Prim.Native.Nat.{ℕ, zero, suc, _+_, _*_, _-_, _≤_, _<_}
 use native.Mathlib.Omega.{arith}
 use mathlib.Core.Path.{subst}
 use mathlib.Core.Option.{Option, none, some}
+use mathlib.Core.Bool.{Bool, true, false}
 use mathlib.Core.List.{List, [], _∷_, _++_, flatMap}
 use lib.ListN.{length, getD, length-append, length-take, length-drop}
 use lib.Dec.{leb, lit≤}
@@ -24,9 +25,9 @@ use Rattle.escaping.specs.Reading.{undone, backslash}
 use Rattle.buffer.specs.Stored.{pageMost}
 use Rattle.escaping.proofs.Lengths.{text-most}
 use Rattle.code.proofs.Lengths.{code-span-most}
-use Rattle.html.proofs.Lengths.{open-most}
-use Rattle.page.specs.Page.{PageIs}
-use Rattle.page.specs.Reading.{text, destination, title, targetText, writtenBy, writtenAt, firstRow, codeStarts, linkStarts, linkCloses, contentFrom, paragraphPage, pageBy, pageOf}
+use Rattle.html.proofs.Lengths.{open-most, image-open-most, image-close-most}
+use Rattle.page.specs.Page.{tagIf, PageIs}
+use Rattle.page.specs.Reading.{isCode, isImage, text, destination, title, targetText, openTag, closeTag, started, tagged, writtenBy, writtenAt, firstRow, starts, closes, contentFrom, paragraphPage, pageBy, pageOf}
 use Rattle.page.proofs.Page.{page-iff}
 
 part-most : (s : List ℕ) (r : Range) → length (bytesOf s r) ≤ length s
@@ -60,7 +61,7 @@ unfolding paragraphs
 count-most s = let z : 0 ≤ length s = omega arith in omega (arith, count-in (block.blocks-in-order s) z)
 
 -- ---- the page
--- the longest opening tag of a link in texts within the length limit
+-- the longest tag in texts within the length limit
 abbrev tagMost : ℕ
 tagMost = 393_236
 
@@ -74,14 +75,37 @@ module _ (T : Texts) (note : length (T .note) ≤ noteLimit) (sheet : length (T 
   named-most zero = note
   named-most (suc k) = either-most (getD js k past-end .text)
 
-  written-most : (a o c : Option (List ℕ)) (l : List ℕ) → length (writtenBy T js a o c l .bytes) ≤ tagMost
+  -- what a row names
+  destination-most : (r : List ℕ) → length (bytesOf (targetText T js r) (destination r)) ≤ noteLimit
+  destination-most r = omega (arith, part-most (targetText T js r) (destination r), named-most (getD r 5 0))
+
+  title-most : (r : List ℕ) → length (bytesOf (targetText T js r) (title r)) ≤ noteLimit
+  title-most r = omega (arith, part-most (targetText T js r) (title r), named-most (getD r 5 0))
+
+  open-tag-most : (r : List ℕ) → length (openTag T js r) ≤ tagMost
+  open-tag-most r =
+      let d = bytesOf (targetText T js r) (destination r) in
+      let t = bytesOf (targetText T js r) (title r) in
+      by (isImage r) (λ e. rw e (omega (arith, image-open-most d, destination-most r))) (λ e. rw e (omega (arith, open-most d t, destination-most r, title-most r)))
+
+  close-tag-most : (r : List ℕ) → length (closeTag T js r) ≤ tagMost
+  close-tag-most r =
+      by (isImage r) (λ e. rw e (omega (arith, image-close-most (bytesOf (targetText T js r) (title r)), title-most r))) (λ e. rw e (lit≤ tt))
+
+  tag-if-most : (b : Bool) (w : List ℕ) → length w ≤ tagMost → length (tagIf b w) ≤ tagMost
+  tag-if-most true w h = h
+  tag-if-most false w h = lit≤ tt
+
+  started-most : (b : Bool) (r : List ℕ) → length (started T js b r .bytes) ≤ tagMost
+  started-most b r =
+      by (isCode r) (λ e. rw e (omega (arith, code-span-most b (bytesOf (T .note) (text r)), part-most (T .note) (text r), note)))
+      (λ e. rw e (tag-if-most b (openTag T js r) (open-tag-most r)))
+
+  written-most : (a c : Option (List ℕ)) (l : List ℕ) → length (writtenBy T js rows a c l .bytes) ≤ tagMost
   unfolding writtenBy
-  written-most (some r) o c l = omega (arith, code-span-most (bytesOf (T .note) (text r)), part-most (T .note) (text r), note)
-  written-most none (some r) c l =
-      let s = targetText T js r in
-      omega (arith, open-most (bytesOf s (destination r)) (bytesOf s (title r)), part-most s (destination r), part-most s (title r), named-most (getD r 5 0))
-  written-most none none (some r) l = lit≤ tt
-  written-most none none none l = omega (arith, escaped-most (getD l (backslash l) 0))
+  written-most (some r) c l = started-most (tagged rows r) r
+  written-most none (some r) l = tag-if-most (tagged rows r) (closeTag T js r) (close-tag-most r)
+  written-most none none l = omega (arith, escaped-most (getD l (backslash l) 0))
 
   content-most : (k : ℕ) (l : List ℕ) (at : ℕ) → length (contentFrom T js rows k l at) ≤ tagMost * length l
   unfolding contentFrom
@@ -90,7 +114,7 @@ module _ (T : Texts) (note : length (T .note) ≤ noteLimit) (sheet : length (T 
       let n = writtenAt T js rows (b ∷ l) at .size - 1 in
       omega (
         arith,
-        written-most (firstRow (codeStarts at) rows) (firstRow (linkStarts at) rows) (firstRow (linkCloses at) rows) (b ∷ l),
+        written-most (firstRow (starts at) rows) (firstRow (closes at) rows) (b ∷ l),
         content-most n l (at + 1),
         length-append (writtenAt T js rows (b ∷ l) at .bytes) (contentFrom T js rows n l (at + 1)),
       )

@@ -3,9 +3,11 @@ pub mod Found
 pub mod Turns
 -- the rows at the pieces of a paragraph, how far rows reach, and those that stand in a paragraph
 pub mod Pieces
+pub mod Descriptions
+pub mod Numbers
 pub mod Extent
 pub mod Here
-pub mod Apart
+pub mod Nested
 pub mod Parts
 -- the page that is read from the rows is the page of the markings
 pub mod Texts
@@ -13,6 +15,7 @@ pub mod Steps
 pub mod Content
 pub mod Page
 -- it is the one that the rows call for
+pub mod Proper
 pub mod Ranges
 pub mod Tiling
 pub mod ByRows

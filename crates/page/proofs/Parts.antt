@@ -8,7 +8,7 @@ use mathlib.Core.Logic.{inl, inr, ⊎-elim}
 use lib.ListN.{length, length-map}
 use Rattle.marking.specs.Marking.{Marking}
 use Rattle.scan.specs.Member.{In}
-use Rattle.marking.specs.Spans.{Span, codeSpan, linkSpan, SpanOf}
+use Rattle.marking.specs.Spans.{Span, codeSpan, pairSpan, SpanOf}
 use Rattle.texts.specs.Texts.{Texts, textOf}
 use Rattle.block.specs.Block.{Placed}
 use Rattle.row.specs.declared.Range.{Range}
@@ -94,12 +94,12 @@ module _ (T : Texts) where
 
     target-in-order : (x : Span Tail) → SpanOf m x → TargetInOrder (targetOf (q .at) (definitionsOf (joined T)) x)
     target-in-order (codeSpan p) y = record { destination = omega arith; title = omega arith }
-    target-in-order (linkSpan o d (inline n a b)) y =
-        let (l, t) = inline-parts-within (q .bytes) (labelsOf T (joined T)) m c o d n a b y in
+    target-in-order (pairSpan x o d (inline n a b)) y =
+        let (l, t) = inline-parts-within (q .bytes) (labelsOf T (joined T)) m c x o d n a b y in
         record { destination = part-in-order (q .at) (d .end) (d .end + n) a l; title = part-in-order (q .at) (d .end) (d .end + n) b t }
-    target-in-order (linkSpan o d (full n k)) y = defined-in-order k (numbered (linkSpan o d (full n k)) y)
-    target-in-order (linkSpan o d (collapsed k)) y = defined-in-order k (numbered (linkSpan o d (collapsed k)) y)
-    target-in-order (linkSpan o d (shortcut k)) y = defined-in-order k (numbered (linkSpan o d (shortcut k)) y)
+    target-in-order (pairSpan x o d (full n k)) y = defined-in-order k (numbered (pairSpan x o d (full n k)) y)
+    target-in-order (pairSpan x o d (collapsed k)) y = defined-in-order k (numbered (pairSpan x o d (collapsed k)) y)
+    target-in-order (pairSpan x o d (shortcut k)) y = defined-in-order k (numbered (pairSpan x o d (shortcut k)) y)
 
   -- neither the destination nor the title of a row ends before it starts
   pub parts-in-order : (row : List ℕ) → In row (spanRows T) → InOrder (destination row) × InOrder (title row)

@@ -4,7 +4,7 @@ use native.Mathlib.Nat.{add-zero}
 use native.Mathlib.Omega.{arith}
 use mathlib.Core.Path.{_≡_, refl, sym, ap, _∙_}
 use mathlib.Core.Logic.{_≢_}
-use mathlib.Core.Option.{none}
+use mathlib.Core.Option.{none, some}
 use mathlib.Core.List.{List, [], _∷_, _++_}
 use mathlib.Core.Bool.{true, false}
 use borrow.Author.Tests.{eqb-true}
@@ -12,16 +12,17 @@ use lib.ListN.{length, getD, drop}
 use lib.Seq.{getD-drop}
 use lib.Dec.{eqb}
 use Rattle.scan.specs.Byte.{escapes}
-use Rattle.marking.specs.Marking.{Kind, code, plain, nothing, opening, closing, trailing, role, Piece, Marking, At}
+use Rattle.scan.proofs.Test.{and-left, and-right}
+use Rattle.marking.specs.Marking.{Sort, link, image, Kind, code, plain, nothing, opening, closing, trailing, role, Piece, Marking, At}
 use Rattle.marking.specs.Marking as kinds
-use Rattle.marking.specs.Spans.{codeSpan, linkSpan, CodeOf, LinkOf}
+use Rattle.marking.specs.Spans.{codeSpan, pairSpan, CodeOf, TakenOf}
 use Rattle.marking.proofs.Roles.{nothing≢opening, nothing≢closing, opening≢closing, closing≢opening}
 use Rattle.texts.specs.Texts.{Texts}
 use Rattle.block.specs.Block.{Placed}
 use Rattle.row.specs.Row.{Listed}
 use Rattle.row.specs.First.{bytesOf, labelsOf}
 use Rattle.definition.proofs.NotePlaces.{Inside}
-use Rattle.inline.specs.Pieces.{Starts, an-escape, code-span, backticks, opening as opens, closing as closes, other, Backticks}
+use Rattle.inline.specs.Pieces.{imageOpens, Starts, an-escape, code-span, backticks, opening as opens, image-opening, closing as closes, other, Backticks}
 use Rattle.inline.specs.Tails.{Tail, lengthOf}
 use Rattle.inline.specs.Rows.{rowEnd}
 use Rattle.inline.specs.ReadingRows.{textOf}
@@ -30,15 +31,30 @@ use Rattle.inline.proofs.SpanBounds.{SpanWithin, span-within}
 use Rattle.note.specs.Note.{MarkingOf}
 use Rattle.note.proofs.Placing.{part-bytes}
 use Rattle.escaping.specs.Escaping.{escaped}
-use Rattle.page.specs.Reading.{rowStart, textEnd, text, firstRow, codeStarts, linkStarts, linkCloses, from, Bare}
+use Rattle.code.specs.Reading.{codeElement}
+use Rattle.page.specs.Page.{tagIf}
+use Rattle.page.specs.Reading.{rowStart, textStart, textEnd, text, openTag, Written, firstRow, starts, tagged, started, from, Bare}
+use Rattle.page.specs.Reading as reading
 use Rattle.page.proofs.Found.{none-if, by-found}
-use Rattle.page.proofs.Turns.{turn-escape, turn-byte, turn-bytes, turn-code, turn-open, turn-close}
-use Rattle.page.proofs.Pieces.{rowIn, RowsHere, grows, stands-inside, ends-inside, opening-role, closing-role, code-at, open-at, close-at, code-found, close-found}
+use Rattle.page.proofs.Turns.{turn-escape, turn-byte, turn-bytes, turn-start, turn-close}
+use Rattle.page.proofs.Pieces.{rowIn, RowsHere, StartsHere, as-code, as-opening, pair-is-no-code, grows, stands-inside, ends-inside, opening-role, closing-role, start-at, close-at, code-found, close-found}
 use Rattle.page.proofs.Texts.{pieceText}
 
 -- a byte that is no backslash starts no escape
 pub no-escape : (p : List ℕ) (a b : ℕ) → getD p a 0 ≡ b → eqb b 92 ≡ false → escapes (drop a p) ≡ false
 no-escape p a b e h = rw (getD-drop a p 0 0, add-zero a, e, h)
+
+-- `!` and `[`, where `![` stands
+pub image-bytes : (p : List ℕ) (a : ℕ) → imageOpens (drop a p) ≡ true → (getD p a 0 ≡ 33) × (getD p (a + 1) 0 ≡ 91)
+image-bytes p a e =
+    let f = and-left (eqb (getD (drop a p) 0 0) 33) (eqb (getD (drop a p) 1 0) 91) e in
+    let g = and-right (eqb (getD (drop a p) 0 0) 33) (eqb (getD (drop a p) 1 0) 91) e in
+    let z : a + 0 ≡ a = add-zero a in
+    (ap (λ (i : ℕ). getD p i 0) (sym z) ∙ sym (getD-drop a p 0 0) ∙ eqb-true _ 33 f, sym (getD-drop a p 1 0) ∙ eqb-true _ 91 g)
+
+escaped-mark : escaped 33 ≡ 33 ∷ []
+unfolding escaped
+escaped-mark = refl
 
 escaped-open : escaped 91 ≡ 91 ∷ []
 unfolding escaped
@@ -55,30 +71,34 @@ module _ (T : Texts) (js : List Listed) (q : Placed) (m : Marking Tail) (c : Mar
 
   -- ---- what does not stand at a place within a piece
   module _ (k : ℕ) (x : Piece) (a : At (m .pieces) k x) (i : ℕ) (lo : x .start ≤ i) (hi : i < x .end) (in-p : i < length (q .bytes)) where
-    no-code : x .kind ≢ code → firstRow (codeStarts (q .at + i)) rows ≡ none
-    no-code n = none-if _ (λ r e. n (code-at T js q m c rows h k x a i lo hi in-p r e .0))
+    no-start : x .kind ≢ code → role (x .kind) ≢ opening → firstRow (starts (q .at + i)) rows ≡ none
+    no-start n o = none-if _ (λ r e. cases r (start-at T js q m c rows h k x a i lo hi in-p r e))
+      where
+        cases : (r : List ℕ) → StartsHere T js q m c rows h k x a i lo hi in-p r → ⊥
+        cases r (as-code p d row) = n d
+        cases r (as-opening p s d t l row) = o (opening-role T js q m c s x d t l)
 
-    no-open : role (x .kind) ≢ opening → firstRow (linkStarts (q .at + i)) rows ≡ none
-    no-open n = none-if _ (λ r e. let o = open-at T js q m c rows h k x a i lo hi in-p r e in n (opening-role T js q m c x (o .closer) (o .with-tail) (o .link)))
+    -- past its first byte
+    no-later-start : x .start < i → firstRow (starts (q .at + i)) rows ≡ none
+    no-later-start z = none-if _ (λ r e. cases r (start-at T js q m c rows h k x a i lo hi in-p r e))
+      where
+        cases : (r : List ℕ) → StartsHere T js q m c rows h k x a i lo hi in-p r → ⊥
+        cases r (as-code p d row) = omega arith
+        cases r (as-opening p s d t l row) = omega arith
 
-    no-close : role (x .kind) ≢ closing → firstRow (linkCloses (q .at + i)) rows ≡ none
-    no-close n = none-if _ (λ r e. let o = close-at T js q m c rows h k x a i lo hi in-p r e in n (closing-role T js q m c (o .opener) x (o .with-tail) (o .link)))
+    no-close : role (x .kind) ≢ closing → firstRow (reading.closes (q .at + i)) rows ≡ none
+    no-close n = none-if _ (λ r e. let o = close-at T js q m c rows h k x a i lo hi in-p r e in n (closing-role T js q m c (o .sort) (o .opener) x (o .with-tail) (o .taken)))
 
     bare : x .kind ≢ code → role (x .kind) ≡ nothing → Bare T js rows (q .bytes) (q .at) i
-    bare n e =
-        record {
-          no-code = no-code n;
-          no-opening = no-open (λ z. nothing≢opening (sym e ∙ z));
-          no-closing = no-close (λ z. nothing≢closing (sym e ∙ z));
-        }
+    bare n e = record { no-start = no-start n (λ z. nothing≢opening (sym e ∙ z)); no-close = no-close (λ z. nothing≢closing (sym e ∙ z)) }
 
-  -- after the piece x the reading goes on at its end, or, after the closing piece of a link, at the end of the tail
+  -- after the piece x the reading goes on at its end, or, after the closing piece of a link or an image, at the end of the tail
   pub data Stepped (x : Piece) : Type 0 where
-    on : ((o : Piece) (t : Tail) → LinkOf m o x t → ⊥) → on-from (x .start) ≡ pieceText T js rows q x ++ on-from (x .end) → Stepped x
-    past : (o : Piece) (t : Tail) → LinkOf m o x t → on-from (x .start) ≡ pieceText T js rows q x ++ on-from (x .end + lengthOf t) → Stepped x
+    on : ((s : Sort) (o : Piece) (t : Tail) → TakenOf m s o x t → ⊥) → on-from (x .start) ≡ pieceText T js rows q x ++ on-from (x .end) → Stepped x
+    past : (s : Sort) (o : Piece) (t : Tail) → TakenOf m s o x t → on-from (x .start) ≡ pieceText T js rows q x ++ on-from (x .end + lengthOf t) → Stepped x
 
-  quiet : (x : Piece) → role (x .kind) ≢ closing → (o : Piece) (t : Tail) → LinkOf m o x t → ⊥
-  quiet x n o t l = n (closing-role T js q m c o x t l)
+  quiet : (x : Piece) → role (x .kind) ≢ closing → (s : Sort) (o : Piece) (t : Tail) → TakenOf m s o x t → ⊥
+  quiet x n s o t l = n (closing-role T js q m c s o x t l)
 
   pub code-bytes : (x : Piece) → CodeOf m x → (r : List ℕ) → rowIn T js q (codeSpan x) ≡ r → bytesOf (T .note) (text r) ≡ bytesOf (q .bytes) (textOf (q .bytes) (codeSpan x))
   code-bytes x o r e =
@@ -101,47 +121,86 @@ module _ (T : Texts) (js : List Listed) (q : Placed) (m : Marking Tail) (c : Mar
 
   step-code : (k : ℕ) (x : Piece) → At (m .pieces) k x → x .kind ≡ code → x .start < x .end → x .start < length (q .bytes) → Stepped x
   step-code k x a e g l =
-      let of : CodeOf m x = record { index = k; at = a; is-code = e } in
-      by-found (firstRow (codeStarts (q .at + x .start)) rows)
-      (λ r f.
-      let row : rowIn T js q (codeSpan x) ≡ r = code-at T js q m c rows h k x a (x .start) (omega arith) g l r f .1 in
-      let size : rowEnd r - rowStart r ≡ x .end - x .start = rw (← row) (omega arith) in
-      on (quiet x (λ z. nothing≢closing (ap role (sym e) ∙ z)))
-      (turn-code T js rows (q .bytes) (q .at) (x .start) (x .end) r l f g size
-      ∙ rw (e, code-bytes x of r row) refl))
-      (λ f. absurd (code-found T js q m c rows h x of f))
+      by-found (firstRow (starts (q .at + x .start)) rows) (λ r f. cases r f (start-at T js q m c rows h k x a (x .start) (omega arith) g l r f)) (λ f. absurd (code-found T js q m c rows h x of f))
+    where
+      of : CodeOf m x
+      of = record { index = k; at = a; is-code = e }
 
-  step-open : (k i : ℕ) → At (m .pieces) k (record { kind = kinds.opens; start = i; end = i + 1 }) → getD (q .bytes) i 0 ≡ 91 → i < length (q .bytes)
-      → Stepped (record { kind = kinds.opens; start = i; end = i + 1 })
+      cases : (r : List ℕ) → firstRow (starts (q .at + x .start)) rows ≡ some r → StartsHere T js q m c rows h k x a (x .start) (omega arith) g l r → Stepped x
+      cases r f (as-opening p s d t y row) = absurd (nothing≢opening (ap role (sym e) ∙ opening-role T js q m c s x d t y))
+      cases r f (as-code p d row) =
+          let row-is : tagged rows (rowIn T js q (codeSpan x)) ≡ tagged rows r = ap (tagged rows) row in
+          let w : Written = record { size = x .end - x .start; bytes = codeElement (tagged rows r) (bytesOf (T .note) (text r)) } in
+          let size : rowEnd r - rowStart r ≡ x .end - x .start = rw (← row) (omega arith) in
+          let code-row : reading.isCode r ≡ true = ap reading.isCode (sym row) in
+          let v : started T js (tagged rows r) r ≡ w = rw (code-row, size) refl in
+          on (quiet x (λ z. nothing≢closing (ap role (sym e) ∙ z)))
+          (turn-start T js rows (q .bytes) (q .at) (x .start) (x .end) r l f v g refl
+          ∙ rw (e, row-is, code-bytes x of r row) refl)
+
+  -- ---- an opening piece of the sort s
+  module _ (s : Sort) (k i n : ℕ) where
+    abbrev piece : Piece
+    piece = record { kind = kinds.opens s; start = i; end = i + n }
+
+    open-row : At (m .pieces) k piece → i < length (q .bytes) → 0 < n → (r : List ℕ) → firstRow (starts (q .at + i)) rows ≡ some r → on-from i ≡ pieceText T js rows q piece ++ on-from (i + n)
+    open-row a l z r f = cases (start-at T js q m c rows h k piece a i (omega arith) (omega arith) l r f)
+      where
+        cases : StartsHere T js q m c rows h k piece a i (omega arith) (omega arith) l r → on-from i ≡ pieceText T js rows q piece ++ on-from (i + n)
+        cases (as-code p d row) = let y : _≡_ {A = ℕ} 0 1 = cc in absurd (omega arith)
+        cases (as-opening p x d t y row) =
+            let v : Written = record { size = n; bytes = tagIf (tagged rows r) (openTag T js r) } in
+            let size : textStart r - rowStart r ≡ n = rw (← row) (omega arith) in
+            let no-code : reading.isCode r ≡ false = ap reading.isCode (sym row) ∙ pair-is-no-code T js q x piece d t in
+            let u : started T js (tagged rows r) r ≡ v = rw (no-code, size) refl in
+            turn-start T js rows (q .bytes) (q .at) i (i + n) r l f u (omega arith) (omega arith) ∙ rw f refl
+
+  step-open : (k i : ℕ) → At (m .pieces) k (piece link k i 1) → getD (q .bytes) i 0 ≡ 91 → i < length (q .bytes) → Stepped (piece link k i 1)
   step-open k i a e l =
-      let x : Piece = record { kind = kinds.opens; start = i; end = i + 1 } in
-      let no = no-code k x a i (omega arith) (omega arith) l (λ z. let y : _≡_ {A = ℕ} 0 1 = cc in absurd (omega arith)) in
-      on (quiet x opening≢closing)
-      (by-found (firstRow (linkStarts (q .at + i)) rows)
-      (λ r f. turn-open T js rows (q .bytes) (q .at) i r l no f ∙ rw f refl)
+      on (quiet (piece link k i 1) opening≢closing)
+      (by-found (firstRow (starts (q .at + i)) rows) (λ r f. open-row link k i 1 a l (omega arith) r f)
       (λ f.
-      let b : Bare T js rows (q .bytes) (q .at) i = record { no-code = no; no-opening = f; no-closing = no-close k x a i (omega arith) (omega arith) l opening≢closing } in
+      let b : Bare T js rows (q .bytes) (q .at) i = record { no-start = f; no-close = no-close k (piece link k i 1) a i (omega arith) (omega arith) l opening≢closing } in
       turn-byte T js rows (q .bytes) (q .at) i l b (no-escape (q .bytes) i 91 e refl) ∙ rw (f, e, escaped-open) refl))
 
-  closing-size : (i : ℕ) (o : Piece) (t : Tail) (r : List ℕ) → rowIn T js q (linkSpan o (record { kind = kinds.closes; start = i; end = i + 1 }) t) ≡ r
+  step-image : (k i : ℕ) → At (m .pieces) k (piece image k i 2) → imageOpens (drop i (q .bytes)) ≡ true → i + 2 ≤ length (q .bytes) → Stepped (piece image k i 2)
+  step-image k i a e l =
+      on (quiet x opening≢closing)
+      (by-found (firstRow (starts (q .at + i)) rows) (λ r f. open-row image k i 2 a (omega arith) (omega arith) r f)
+      (λ f.
+      let (u, v) = image-bytes (q .bytes) i e in
+      let b : Bare T js rows (q .bytes) (q .at) i = record { no-start = f; no-close = no-close k x a i (omega arith) (omega arith) (omega arith) opening≢closing } in
+      let b′ : Bare T js rows (q .bytes) (q .at) (i + 1)
+      = record {
+        no-start = no-later-start k x a (i + 1) (omega arith) (omega arith) (omega arith) (omega arith);
+        no-close = no-close k x a (i + 1) (omega arith) (omega arith) (omega arith) opening≢closing;
+      } in
+      let z : i + 1 + 1 ≡ i + 2 = omega arith in
+      turn-byte T js rows (q .bytes) (q .at) i (omega arith) b (no-escape (q .bytes) i 33 u refl)
+      ∙ ap (λ (y : List ℕ). escaped (getD (q .bytes) i 0) ++ y) (turn-byte T js rows (q .bytes) (q .at) (i + 1) (omega arith) b′ (no-escape (q .bytes) (i + 1) 91 v refl))
+      ∙ rw (f, u, v, escaped-mark, escaped-open, z) refl))
+    where
+      x : Piece
+      x = piece image k i 2
+
+  closing-size : (s : Sort) (i : ℕ) (o : Piece) (t : Tail) (r : List ℕ) → rowIn T js q (pairSpan s o (record { kind = kinds.closes; start = i; end = i + 1 }) t) ≡ r
       → rowEnd r - textEnd r ≡ i + 1 + lengthOf t - i
-  closing-size i o t r e = rw (← e) (omega arith)
+  closing-size s i o t r e = rw (← e) (omega arith)
 
   step-close : (k i : ℕ) → At (m .pieces) k (record { kind = kinds.closes; start = i; end = i + 1 }) → getD (q .bytes) i 0 ≡ 93 → i < length (q .bytes)
       → Stepped (record { kind = kinds.closes; start = i; end = i + 1 })
   step-close k i a e l =
       let x : Piece = record { kind = kinds.closes; start = i; end = i + 1 } in
-      let no = no-code k x a i (omega arith) (omega arith) l (λ z. let y : _≡_ {A = ℕ} 0 1 = cc in absurd (omega arith)) in
-      let no-open-here = no-open k x a i (omega arith) (omega arith) l closing≢opening in
-      by-found (firstRow (linkCloses (q .at + i)) rows)
+      let none-starts = no-start k x a i (omega arith) (omega arith) l (λ z. let y : _≡_ {A = ℕ} 0 1 = cc in absurd (omega arith)) closing≢opening in
+      by-found (firstRow (reading.closes (q .at + i)) rows)
       (λ r f.
       let o = close-at T js q m c rows h k x a i (omega arith) (omega arith) l r f in
-      let size = closing-size i (o .opener) (o .with-tail) r (o .row-is) in
-      past (o .opener) (o .with-tail) (o .link)
-      (turn-close T js rows (q .bytes) (q .at) i (i + 1 + lengthOf (o .with-tail)) r l no no-open-here f (omega arith) size ∙ rw f refl))
+      let size = closing-size (o .sort) i (o .opener) (o .with-tail) r (o .row-is) in
+      past (o .sort) (o .opener) (o .with-tail) (o .taken)
+      (turn-close T js rows (q .bytes) (q .at) i (i + 1 + lengthOf (o .with-tail)) r l none-starts f (omega arith) size ∙ rw f refl))
       (λ f.
-      let b : Bare T js rows (q .bytes) (q .at) i = record { no-code = no; no-opening = no-open-here; no-closing = f } in
-      on (λ o t z. absurd (close-found T js q m c rows h o x t z f))
+      let b : Bare T js rows (q .bytes) (q .at) i = record { no-start = none-starts; no-close = f } in
+      on (λ s o t z. absurd (close-found T js q m c rows h s o x t z f))
       (turn-byte T js rows (q .bytes) (q .at) i l b (no-escape (q .bytes) i 93 e refl) ∙ rw (f, e, escaped-close) refl))
 
   step-escape : (k i : ℕ) → At (m .pieces) k (record { kind = kinds.escape; start = i; end = i + 2 }) → escapes (drop i (q .bytes)) ≡ true → i < length (q .bytes)
@@ -164,8 +223,9 @@ module _ (T : Texts) (js : List Listed) (q : Placed) (m : Marking Tail) (c : Mar
   step-by k {x} a g l e (code-span r f) = step-code k x a refl g l
   step-by k {x} a g l e (backticks {a = i} {n = n} r f) = step-text k x a refl (omega arith) e (λ j. tick-no-escape i n j r)
   step-by k a g l e (opens {a = i} b) = step-open k i a b l
+  step-by k a g l e (image-opening {a = i} b) = step-image k i a b e
   step-by k a g l e (closes {a = i} b) = step-close k i a b l
-  step-by k {x} a g l e (other {a = i} b d n) = step-text k x a refl (omega arith) e (one-place i d)
+  step-by k {x} a g l e (other {a = i} b d o n) = step-text k x a refl (omega arith) e (one-place i d)
 
   pub step : (k : ℕ) (x : Piece) → At (m .pieces) k x → role (x .kind) ≢ trailing → Stepped x
   step k x a n = step-by k a (grows T js q m c k x a n) (stands-inside T js q m c k x a n) (ends-inside T js q m c k x a n) (c .kinds k x a n)

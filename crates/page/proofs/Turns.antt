@@ -12,12 +12,10 @@ use Rattle.scan.specs.Byte.{escapes}
 use Rattle.scan.proofs.Scan.{at-cons}
 use Rattle.texts.specs.Texts.{Texts}
 use Rattle.row.specs.Row.{Listed}
-use Rattle.row.specs.First.{bytesOf}
 use Rattle.inline.specs.Rows.{rowEnd}
 use Rattle.escaping.specs.Escaping.{escaped}
-use Rattle.html.specs.Tags.{linkClose}
-use Rattle.code.specs.Reading.{codeElement}
-use Rattle.page.specs.Reading.{rowStart, textEnd, text, openTag, Written, unit, firstRow, codeStarts, linkStarts, linkCloses, writtenBy, writtenAt, contentFrom}
+use Rattle.page.specs.Reading.{textEnd, closeTag, Written, unit, firstRow, starts, closes, tagged, started, writtenBy, writtenAt, contentFrom}
+use Rattle.page.specs.Page.{tagIf}
 use Rattle.page.specs.Reading as reading
 
 module _ (T : Texts) (js : List Listed) (rows : List (List ℕ)) where
@@ -64,7 +62,7 @@ module _ (T : Texts) (js : List Listed) (rows : List (List ℕ)) (p : List ℕ) 
 
   bare-unit : (a : ℕ) → Bare a → here a ≡ unit (drop a p)
   unfolding writtenBy
-  bare-unit a b = rw (b .no-code, b .no-opening, b .no-closing)
+  bare-unit a b = rw (b .no-start, b .no-close)
 
   pub turn-escape : (a : ℕ) → a < length p → Bare a → escapes (drop a p) ≡ true → from a ≡ escaped (getD p (a + 1) 0) ++ from (a + 2)
   turn-escape a h b e =
@@ -91,25 +89,18 @@ module _ (T : Texts) (js : List Listed) (rows : List (List ℕ)) (p : List ℕ) 
       ∙ rw (k, z) refl
 
   -- ---- a row stands there; the next turn is at e
-  pub turn-code : (a e : ℕ) (r : List ℕ) → a < length p → firstRow (codeStarts (off + a)) rows ≡ some r → a < e → rowEnd r - rowStart r ≡ e - a
-      → from a ≡ codeElement (bytesOf (T .note) (text r)) ++ from e
+  pub turn-start : (a e : ℕ) (r : List ℕ) {w : Written} → a < length p → firstRow (starts (off + a)) rows ≡ some r → started T js (tagged rows r) r ≡ w → a < e → w .size ≡ e - a
+      → from a ≡ w .bytes ++ from e
   unfolding writtenBy
-  turn-code a e r h k l z =
-      let g : here a ≡ record { size = rowEnd r - rowStart r; bytes = codeElement (bytesOf (T .note) (text r)) } = rw k refl in
+  turn-start a e r {w} h k f l z =
+      let g : here a ≡ w = rw k f in
       let j : a + suc (e - a - 1) ≡ e = omega arith in
-      turn a (e - a - 1) h g (omega arith) ∙ ap (λ (i : ℕ). codeElement (bytesOf (T .note) (text r)) ++ from i) j
+      turn a (e - a - 1) h g (omega arith) ∙ ap (λ (i : ℕ). w .bytes ++ from i) j
 
-  pub turn-open : (a : ℕ) (r : List ℕ) → a < length p → firstRow (codeStarts (off + a)) rows ≡ none → firstRow (linkStarts (off + a)) rows ≡ some r
-      → from a ≡ openTag T js r ++ from (a + 1)
+  pub turn-close : (a e : ℕ) (r : List ℕ) → a < length p → firstRow (starts (off + a)) rows ≡ none → firstRow (closes (off + a)) rows ≡ some r → a < e → rowEnd r - textEnd r ≡ e - a
+      → from a ≡ tagIf (tagged rows r) (closeTag T js r) ++ from e
   unfolding writtenBy
-  turn-open a r h n k =
-      let g : here a ≡ record { size = 1; bytes = openTag T js r } = rw (n, k) refl in
-      turn a 0 h g refl
-
-  pub turn-close : (a e : ℕ) (r : List ℕ) → a < length p → firstRow (codeStarts (off + a)) rows ≡ none → firstRow (linkStarts (off + a)) rows ≡ none
-      → firstRow (linkCloses (off + a)) rows ≡ some r → a < e → rowEnd r - textEnd r ≡ e - a → from a ≡ linkClose ++ from e
-  unfolding writtenBy
-  turn-close a e r h n o k l z =
-      let g : here a ≡ record { size = rowEnd r - textEnd r; bytes = linkClose } = rw (n, o, k) refl in
+  turn-close a e r h n k l z =
+      let g : here a ≡ record { size = rowEnd r - textEnd r; bytes = tagIf (tagged rows r) (closeTag T js r) } = rw (n, k) refl in
       let j : a + suc (e - a - 1) ≡ e = omega arith in
-      turn a (e - a - 1) h g (omega arith) ∙ ap (λ (i : ℕ). linkClose ++ from i) j
+      turn a (e - a - 1) h g (omega arith) ∙ ap (λ (i : ℕ). tagIf (tagged rows r) (closeTag T js r) ++ from i) j

@@ -37,6 +37,9 @@ pub data Tag : List ℕ → Type 0 where
   link-open : {h : List ℕ} → Clean h → Tag (ascii "<a href=\"" ++ (h ++ ascii "\">"))
   link-open-titled : {h t : List ℕ} → Clean h → Clean t → Tag (ascii "<a href=\"" ++ (h ++ (ascii "\" title=\"" ++ (t ++ ascii "\">"))))
   link-close : Tag linkClose
+  image : {h a : List ℕ} → Clean h → Clean a → Tag (ascii "<img src=\"" ++ (h ++ (ascii "\" alt=\"" ++ (a ++ ascii "\" />"))))
+  image-titled : {h a t : List ℕ} → Clean h → Clean a → Clean t
+      → Tag (ascii "<img src=\"" ++ (h ++ (ascii "\" alt=\"" ++ (a ++ (ascii "\" title=\"" ++ (t ++ ascii "\" />"))))))
 
 -- tags and what cannot be taken for markup: every `<`, `>` and `"` is one of a tag's own
 pub data Tagged : List ℕ → Type 0 where

@@ -3,9 +3,9 @@ use Prim.Native.Nat.{ℕ, zero, suc, _+_, _-_}
 use mathlib.Core.Path.{_≡_}
 use mathlib.Core.Option.{Option, none, some}
 use mathlib.Core.List.{List, [], _∷_, _++_, flatMap}
-use mathlib.Core.Bool.{Bool, true, false, not, _&&_}
+use mathlib.Core.Bool.{Bool, true, false, cond, not, _&&_}
 use lib.ListN.{getD, drop}
-use lib.Dec.{eqb}
+use lib.Dec.{eqb, leb, ltb}
 use Rattle.texts.specs.Texts.{Texts}
 use Rattle.block.specs.Block.{Placed}
 use Rattle.row.specs.declared.Range.{Range}
@@ -13,27 +13,34 @@ use Rattle.row.specs.Row.{range, Listed}
 use Rattle.row.specs.First.{bytesOf, namedText}
 use Rattle.definition.specs.Reading.{paragraphs}
 use Rattle.joined.specs.Reading.{joined}
-use Rattle.span.specs.Row.{codeSpanKind}
+use Rattle.span.specs.Row.{codeSpanKind, inlineImageKind}
 use Rattle.inline.specs.Rows.{rowEnd}
 use Rattle.note.specs.Reading.{spanRows}
 use Rattle.escaping.specs.Escaping.{escaped}
 use Rattle.html.specs.Tags.{linkClose, paragraphOpen, paragraphClose}
 use Rattle.escaping.specs.Reading.{backslash}
 use Rattle.code.specs.Reading.{codeElement}
-use Rattle.html.specs.Reading.{linkOpen}
+use Rattle.html.specs.Reading.{linkOpen, imageOpen, imageClose}
+use Rattle.page.specs.Page.{tagIf}
 
 -- ---- the numbers of a row
 abbrev pub isCode : List ℕ → Bool
 isCode r = eqb (getD r 0 0) codeSpanKind
 
+abbrev pub isImage : List ℕ → Bool
+isImage r = leb inlineImageKind (getD r 0 0)
+
 abbrev pub rowStart : List ℕ → ℕ
 rowStart r = getD r 1 0
+
+abbrev pub textStart : List ℕ → ℕ
+textStart r = getD r 3 0
 
 abbrev pub textEnd : List ℕ → ℕ
 textEnd r = getD r 4 0
 
 abbrev pub text : List ℕ → Range
-text r = range (getD r 3 0) (textEnd r)
+text r = range (textStart r) (textEnd r)
 
 abbrev pub destination : List ℕ → Range
 destination r = range (getD r 6 0) (getD r 7 0)
@@ -45,24 +52,37 @@ title r = range (getD r 8 0) (getD r 9 0)
 abbrev pub targetText : Texts → List Listed → List ℕ → List ℕ
 targetText T js r = namedText T js (getD r 5 0)
 
--- the opening tag of a link
+-- what stands before the text of a link or the description of an image, and after it
 abbrev pub openTag : Texts → List Listed → List ℕ → List ℕ
-openTag T js r = linkOpen (bytesOf (targetText T js r) (destination r)) (bytesOf (targetText T js r) (title r))
+openTag T js r =
+    cond (isImage r) (imageOpen (bytesOf (targetText T js r) (destination r))) (linkOpen (bytesOf (targetText T js r) (destination r)) (bytesOf (targetText T js r) (title r)))
+
+abbrev pub closeTag : Texts → List Listed → List ℕ → List ℕ
+closeTag T js r = cond (isImage r) (imageClose (bytesOf (targetText T js r) (title r))) linkClose
 
 -- ---- the row that stands at a place of the note
 unfoldable pub firstRow : (List ℕ → Bool) → List (List ℕ) → Option (List ℕ)
 firstRow test [] = none
 firstRow test (r ∷ rows) = elim (test r) [ true ↦ some r | false ↦ firstRow test rows ]
 
--- a code span starts there, a link starts there, a link's text ends there
-abbrev pub codeStarts : ℕ → List ℕ → Bool
-codeStarts at r = isCode r && eqb (rowStart r) at
+-- a row starts there; the text of a link or an image ends there
+abbrev pub starts : ℕ → List ℕ → Bool
+starts at r = eqb (rowStart r) at
 
-abbrev pub linkStarts : ℕ → List ℕ → Bool
-linkStarts at r = not (isCode r) && eqb (rowStart r) at
+abbrev pub closes : ℕ → List ℕ → Bool
+closes at r = not (isCode r) && eqb (textEnd r) at
 
-abbrev pub linkCloses : ℕ → List ℕ → Bool
-linkCloses at r = not (isCode r) && eqb (textEnd r) at
+-- the row r starts in the description of the image whose row is d
+abbrev pub describes : List ℕ → List ℕ → Bool
+describes r d = isImage d && leb (textStart d) (rowStart r) && ltb (rowStart r) (textEnd d)
+
+abbrev pub isNone : Option (List ℕ) → Bool
+isNone none = true
+isNone (some r) = false
+
+-- whether tags are written for the row r: it starts in no image's description
+unfoldable pub tagged : List (List ℕ) → List ℕ → Bool
+tagged rows r = isNone (firstRow (describes r) rows)
 
 -- ---- what is written at a place
 -- how many bytes of the note it stands for, and what is written for them
@@ -77,16 +97,25 @@ written n w = record { size = n; bytes = w }
 abbrev pub unit : List ℕ → Written
 unit l = written (backslash l + 1) (escaped (getD l (backslash l) 0))
 
--- by the code span that starts there, the link that starts there, the link whose text ends there
-unfoldable pub writtenBy : Texts → List Listed → Option (List ℕ) → Option (List ℕ) → Option (List ℕ) → List ℕ → Written
-writtenBy T js (some r) o c l = written (rowEnd r - rowStart r) (codeElement (bytesOf (T .note) (text r)))
-writtenBy T js none (some r) c l = written 1 (openTag T js r)
-writtenBy T js none none (some r) l = written (rowEnd r - textEnd r) linkClose
-writtenBy T js none none none l = unit l
+-- at the start of the row r, by whether tags are written for it
+abbrev pub started : Texts → List Listed → Bool → List ℕ → Written
+started T js tags r =
+    cond (isCode r) (written (rowEnd r - rowStart r) (codeElement tags (bytesOf (T .note) (text r))))
+    (written (textStart r - rowStart r) (tagIf tags (openTag T js r)))
+
+-- where its text ends
+abbrev pub closed : Texts → List Listed → Bool → List ℕ → Written
+closed T js tags r = written (rowEnd r - textEnd r) (tagIf tags (closeTag T js r))
 
 module _ (T : Texts) (js : List Listed) (rows : List (List ℕ)) where
+  -- by the row that starts there, and the row whose text ends there
+  unfoldable pub writtenBy : Option (List ℕ) → Option (List ℕ) → List ℕ → Written
+  writtenBy (some r) c l = started T js (tagged rows r) r
+  writtenBy none (some r) l = closed T js (tagged rows r) r
+  writtenBy none none l = unit l
+
   abbrev pub writtenAt : List ℕ → ℕ → Written
-  writtenAt l at = writtenBy T js (firstRow (codeStarts at) rows) (firstRow (linkStarts at) rows) (firstRow (linkCloses at) rows) l
+  writtenAt l at = writtenBy (firstRow (starts at) rows) (firstRow (closes at) rows) l
 
   -- what is left of a paragraph, from place `at` of the note on, after the next k bytes
   unfoldable pub contentFrom : ℕ → List ℕ → ℕ → List ℕ
@@ -109,9 +138,8 @@ module _ (T : Texts) (js : List Listed) (rows : List (List ℕ)) (p : List ℕ) 
 
   -- no row stands there
   pub record Bare (a : ℕ) : Type 0 where
-    pub no-code : firstRow (codeStarts (off + a)) rows ≡ none
-    pub no-opening : firstRow (linkStarts (off + a)) rows ≡ none
-    pub no-closing : firstRow (linkCloses (off + a)) rows ≡ none
+    pub no-start : firstRow (starts (off + a)) rows ≡ none
+    pub no-close : firstRow (closes (off + a)) rows ≡ none
 
 -- ---- the page
 -- the page that these rows and paragraphs of the note call for

@@ -22,8 +22,8 @@ use Rattle.escaping.specs.Escaping.{escaped}
 use Rattle.href.specs.Href.{stays, hexDigit, hrefByte}
 use Rattle.escaping.specs.Reading.{undone}
 use Rattle.code.specs.Reading.{margin}
-use Rattle.html.specs.Reading.{titleAttribute, linkOpen}
-use Rattle.page.specs.Reading.{firstRow, writtenBy, contentFrom, paragraphPage, pageBy, pageOf}
+use Rattle.html.specs.Reading.{titleAttribute, linkOpen, imageOpen, imageClose}
+use Rattle.page.specs.Reading.{firstRow, tagged, writtenBy, contentFrom, paragraphPage, pageBy, pageOf}
 
 pub record Sample : Type 0 where
   pub texts : Texts
@@ -78,6 +78,23 @@ samples =
     ∷ ("[foo][bar][baz]\n\n[baz]: /url" ⇒ "<p>[foo]<a href=\"/url\">bar</a></p>\n")
     ∷ ("[Foo][]\n\n[foo]: /url \"title\"" ⇒ "<p><a href=\"/url\" title=\"title\">Foo</a></p>\n")
     ∷ ("[foo][ ]\n\n[foo]: /url" ⇒ "<p><a href=\"/url\">foo</a>[ ]</p>\n")
+    -- images: source 000's and the standard's
+    ∷ ("![foo](/url \"title\")" ⇒ "<p><img src=\"/url\" alt=\"foo\" title=\"title\" /></p>\n")
+    ∷ ("![foo ![bar](/url)](/url2)" ⇒ "<p><img src=\"/url2\" alt=\"foo bar\" /></p>\n")
+    ∷ ("![foo [bar](/url)](/url2)" ⇒ "<p><img src=\"/url2\" alt=\"foo bar\" /></p>\n")
+    ∷ ("My ![foo bar](/path/to/train.jpg  \"title\"   )" ⇒ "<p>My <img src=\"/path/to/train.jpg\" alt=\"foo bar\" title=\"title\" /></p>\n")
+    ∷ ("![](/url)" ⇒ "<p><img src=\"/url\" alt=\"\" /></p>\n")
+    ∷ ("![foo][bar]\n\n[bar]: /url" ⇒ "<p><img src=\"/url\" alt=\"foo\" /></p>\n")
+    ∷ ("![foo] \n[]\n\n[foo]: /url \"title\"" ⇒ "<p><img src=\"/url\" alt=\"foo\" title=\"title\" /> \n[]</p>\n")
+    ∷ ("![[foo]]" ⇒ "<p>![[foo]]</p>\n")
+    ∷ ("!\\[foo]\n\n[foo]: /url" ⇒ "<p>![foo]</p>\n")
+    ∷ ("\\![foo]\n\n[foo]: /url" ⇒ "<p>!<a href=\"/url\">foo</a></p>\n")
+    ∷ ("[![moon](moon.jpg)](/uri)" ⇒ "<p><a href=\"/uri\"><img src=\"moon.jpg\" alt=\"moon\" /></a></p>\n")
+    ∷ ("![[[foo](uri1)](uri2)](uri3)" ⇒ "<p><img src=\"uri3\" alt=\"[foo](uri2)\" /></p>\n")
+    -- what stands in A: escapes undone, the four characters replaced, code without its tags, LF as it is
+    ∷ ("![a \\* <&>\" `c  d` e\nf](/u)" ⇒ "<p><img src=\"/u\" alt=\"a * &lt;&amp;&gt;&quot; c  d e\nf\" /></p>\n")
+    -- an image that holds a link bars the link around it; what follows is as ever
+    ∷ ("[![[a](b)](c)](d) `e` [f](g)" ⇒ "<p>[<img src=\"c\" alt=\"a\" />](d) <code>e</code> <a href=\"g\">f</a></p>\n")
     -- with a sheet: destination and title from its bytes; of two equal labels the note's; an inline link's own; the sheet's paragraphs are ignored
     ∷ beside "[max]: /q2/max \"June\"" ("Use [max]." ⇒ "<p>Use <a href=\"/q2/max\" title=\"June\">max</a>.</p>\n")
     ∷ beside "[a]: /s 'S'\n[b]: /t 'T'"
@@ -95,5 +112,5 @@ unfolding scanBytes run past leap closingStep closing onesFrom leadingOnes seque
     definition.lineAfter definition.titleAfter definition.endingAfter definition.afterLabel definition.afterIndent definition.definitionAt definition.takingFrom definition.definitionsFrom
     definition.paragraphEnd definition.paragraphFrom definition.definitionsOf definition.paragraphOf definition.definitionsIn definition.paragraphsIn definition.definitions definition.paragraphs
     countAfter runStep runDone closingRun pieceFrom closedAt afterDestination inlineOf labelAfter textTail tailOf joined labels rowsIn spanRows
-    flatMap escaped stays hexDigit hrefByte undone margin titleAttribute linkOpen firstRow writtenBy contentFrom paragraphPage pageBy pageOf
+    flatMap escaped stays hexDigit hrefByte undone margin titleAttribute linkOpen imageOpen imageClose firstRow tagged writtenBy contentFrom paragraphPage pageBy pageOf
 samples-hold = refl

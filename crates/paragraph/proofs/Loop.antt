@@ -14,7 +14,7 @@ use Rattle.scan.proofs.Test.{by}
 use Rattle.marking.specs.Marking.{role, Piece}
 use Rattle.marking.specs.Spans as marked
 use Rattle.marking.specs.ReadingRules.{Grammar}
-use Rattle.marking.specs.Reading.{Match, alone, paired, linked, isCode, stackBy, pieceAt, placeAfter, lastAfter, newSpans}
+use Rattle.marking.specs.Reading.{Match, alone, paired, taken, isCode, stackBy, pieceAt, placeAfter, lastAfter, newSpans}
 use Rattle.marking.specs.ReadingSpans.{Scan, scanFound, scanStep, scanStart, finish, spans, overAt, overs, over}
 use Rattle.marking.proofs.Finish.{finish-step, finish-end, overs-step, overs-end, scan-grows, scan-within}
 use Rattle.rows.specs.Rows
@@ -44,7 +44,7 @@ stored-more s t k (x ∷ xs) ys =
 few-spans : {T : Type 0} (f : ℕ → Piece) (q : Piece) (x : Match T) → length (newSpans f q x) ≤ 1
 few-spans f q alone = by (isCode (q .kind)) (λ e. rw e (omega arith)) (λ e. rw e (omega arith))
 few-spans f q (paired i) = omega arith
-few-spans f q (linked i t) = omega arith
+few-spans f q (taken x i t) = omega arith
 
 scan-eq : {T : Type 0} {a a′ : ℕ} {b b′ : List ℕ} {c c′ : ℕ} (xs : List (marked.Span T)) → a ≡ a′ → b ≡ b′ → c ≡ c′
     → _≡_ {A = Scan T} (record { place = a; stack = b; last-link = c; spans = xs }) (record { place = a′; stack = b′; last-link = c′; spans = xs })

@@ -16,8 +16,8 @@ use Rattle.scan.specs.Byte.{escapes}
 use Rattle.scan.specs.Reading.{run}
 use Rattle.scan.specs.declared.Found.{Found as Place}
 use Rattle.scan.specs.declared.Found.the-variants as place
-use Rattle.marking.specs.Marking.{Role, nothing, closing, role, Piece}
-use Rattle.marking.specs.Reading.{alone, foundBy, stackBy}
+use Rattle.marking.specs.Marking.{Sort, Role, nothing, closing, role, Piece}
+use Rattle.marking.specs.Reading.{alone, sortOf, foundBy, stackBy}
 use Rattle.marking.specs.ReadingSpans.{spans, scanFound, tooDeep, over}
 use Rattle.marking.proofs.Finish.{overs-deep}
 use Rattle.row.specs.declared.Definition.{Definition}
@@ -26,11 +26,12 @@ use Rattle.row.specs.First.{bytesOf}
 use Rattle.span.specs.Row.{width, wholeRows}
 use Rattle.inline.specs.Pieces.{backtick}
 use Rattle.inline.specs.Tails.{Tail}
-use Rattle.inline.specs.ReadingPieces.{closingRun, piece, spanOrText, pieceFrom}
+use Rattle.inline.specs.ReadingPieces.{closingRun, spanOrText, pieceFrom}
 use Rattle.inline.proofs.Turns.{from-escape, from-backticks, from-byte}
 use Rattle.inline.specs.Reading.{grammar}
 use Rattle.paragraph.specs.Tally.{tallyOf}
-use Rattle.step.specs.Promise.{lined, Bounds, Steps}
+use Rattle.step.specs.Promise.{lined, openingSize, Bounds, Steps}
+use Rattle.step.proofs.Openings.{at-opening, opens-there, none-there, opening-inside}
 use Rattle.paragraph.specs.Promise.{openPlaces, Waits, opened, pushed, Closing, Lies, roleAt, Brackets, Reads}
 use Rattle.step.specs.declared.Walk.{Walk}
 use Rattle.paragraph.specs.declared.Tally.the-variants.{Deep}
@@ -43,24 +44,25 @@ run-role : (a e : ℕ) (f : Place) → role (spanOrText a e f .kind) ≡ nothing
 run-role a e (place.At c) = refl
 run-role a e place.Nothing = refl
 
-quiet-role : (p : List ℕ) (a : ℕ) → (getD p a 0 ≡ 91 → ⊥) → (getD p a 0 ≡ 93 → ⊥) → role (pieceFrom p a .kind) ≡ nothing
-quiet-role p a n m =
+quiet-role : (p : List ℕ) (a : ℕ) → openingSize p a ≡ 0 → (getD p a 0 ≡ 93 → ⊥) → role (pieceFrom p a .kind) ≡ nothing
+quiet-role p a z m =
+    let n = none-there p a z in
     by (escapes (drop a p)) (λ e. rw (from-escape p a e))
     (λ e. by (backtick (getD p a 0))
     (λ t. rw (from-backticks p a e t) (run-role a (a + run backtick (drop a p)) (closingRun (run backtick (drop a p)) (drop (a + run backtick (drop a p)) p) (a + run backtick (drop a p)))))
-    (λ t. rw (from-byte p a e t, ne-eqb (getD p a 0) 91 n, ne-eqb (getD p a 0) 93 m)))
+    (λ t. rw (from-byte p a e t (n .1), ne-eqb (getD p a 0) 91 (n .0), ne-eqb (getD p a 0) 93 m)))
 
 -- a piece of that role, where these brackets wait, comes to nothing and changes nothing
-record Idle (tailOf : ℕ → Option Tail) (last at : ℕ) (st : List ℕ) (x : Role) : Type 0 where
-  found : foundBy tailOf last st x ≡ alone
+record Idle (sortAt : ℕ → Sort) (tailOf : ℕ → Option Tail) (last at : ℕ) (st : List ℕ) (x : Role) : Type 0 where
+  found : foundBy sortAt tailOf last st x ≡ alone
   stack : stackBy at st x ≡ st
   room : tooDeep depthLimit st x ≡ false
 
-module _ (tailOf : ℕ → Option Tail) (last at : ℕ) (st : List ℕ) (x : Role) where
-  idle-nothing : x ≡ nothing → Idle tailOf last at st x
+module _ (sortAt : ℕ → Sort) (tailOf : ℕ → Option Tail) (last at : ℕ) (st : List ℕ) (x : Role) where
+  idle-nothing : x ≡ nothing → Idle sortAt tailOf last at st x
   idle-nothing e = rw e (record { found = refl; stack = refl; room = refl })
 
-  idle-closing : x ≡ closing → st ≡ [] → Idle tailOf last at st x
+  idle-closing : x ≡ closing → st ≡ [] → Idle sortAt tailOf last at st x
   idle-closing e z = rw (e, z) (record { found = refl; stack = refl; room = refl })
 
 -- ---- what the tests tell
@@ -84,6 +86,9 @@ module _ (s : List ℕ) (offset : ℕ) (p : List ℕ) (labels : List (List ℕ))
   abbrev waiting : List ℕ
   waiting = openPlaces w stack
 
+  abbrev sortsHere : ℕ → Sort
+  sortsHere a = sortOf (grammar p labels .kindAt a)
+
   abbrev tailsHere : ℕ → Option Tail
   tailsHere a = grammar p labels .tailAt (grammar p labels .endAt a) (w .at)
 
@@ -94,13 +99,13 @@ module _ (s : List ℕ) (offset : ℕ) (p : List ℕ) (labels : List (List ℕ))
   waiting-length = open-length s offset p (wholeRows t₀) w stack (o .waits)
 
   -- ---- a piece in no pair
-  module _ (n : getD p (w .at) 0 ≡ 91 → ⊥) (m : getD p (w .at) 0 ≡ 93 → w .depth ≡ 0) where
-    idle : Idle tailsHere (w .last) (w .at) waiting roleHere
+  module _ (n : openingSize p (w .at) ≡ 0) (m : getD p (w .at) 0 ≡ 93 → w .depth ≡ 0) where
+    idle : Idle sortsHere tailsHere (w .last) (w .at) waiting roleHere
     idle = cases (ℕ-discrete (getD p (w .at) 0) 93)
       where
-        cases : Dec (getD p (w .at) 0 ≡ 93) → Idle tailsHere (w .last) (w .at) waiting roleHere
-        cases (yes e) = idle-closing tailsHere (w .last) (w .at) waiting roleHere (ap (λ (x : Piece). role (x .kind)) (at-close p (w .at) e)) (ap (λ (d : ℕ). reverse (take d stack)) (m e))
-        cases (no e) = idle-nothing tailsHere (w .last) (w .at) waiting roleHere (quiet-role p (w .at) n e)
+        cases : Dec (getD p (w .at) 0 ≡ 93) → Idle sortsHere tailsHere (w .last) (w .at) waiting roleHere
+        cases (yes e) = idle-closing sortsHere tailsHere (w .last) (w .at) waiting roleHere (ap (λ (x : Piece). role (x .kind)) (at-close p (w .at) e)) (ap (λ (d : ℕ). reverse (take d stack)) (m e))
+        cases (no e) = idle-nothing sortsHere tailsHere (w .last) (w .at) waiting roleHere (quiet-role p (w .at) n e)
 
     module _ {w′ : Walk} {u : List ℕ} (y : Steps s offset p labels ds alone w t w′ u) (d : w′ .depth ≡ w .depth) where
       same-open : stackBy (w .at) waiting roleHere ≡ openPlaces w′ stack
@@ -135,12 +140,17 @@ module _ (s : List ℕ) (offset : ℕ) (p : List ℕ) (labels : List (List ℕ))
   pub waits-here : length t ≡ length t₀ → Waits s offset p (wholeRows t) w stack
   waits-here same = subst⁻¹ (λ (n : ℕ). Waits s offset p n w stack) (rows-same t t₀ same) (o .waits)
 
-  pub open-turn : length t ≡ length t₀ → (e : getD p (w .at) 0 ≡ 91) → (w .depth ≡ depthLimit → ⊥) → {w″ : Walk} {stack″ : List ℕ} → w″ ≡ opened (lined s offset t w)
+  -- an opening piece ends within the paragraph
+  pub open-inside : {n : ℕ} → n ≡ openingSize p (w .at) → 0 < n → w .at + n ≤ length p
+  open-inside en l = opening-inside p (w .at) (opens-there p (w .at) en l) h
+
+  pub open-turn : length t ≡ length t₀ → {n : ℕ} → n ≡ openingSize p (w .at) → 0 < n → (w .depth ≡ depthLimit → ⊥) → {w″ : Walk} {stack″ : List ℕ} → w″ ≡ opened n (lined s offset t w)
       → stack″ ≡ pushed stack w (w″ .line .number) → {w′ : Walk} {stack′ u : List ℕ} → w′ ≡ w″ → stack′ ≡ stack″ → u ≡ t → Turned w′ stack′ u
-  open-turn same e n ez el ew es eu =
+  open-turn same {n} en l m ez el ew es eu =
+      let e = opens-there p (w .at) en l in
       let d : w .depth < depthLimit = omega (arith, o .waits .fits) in
-      let r : tooDeep depthLimit waiting roleHere ≡ false = ap (tooDeep depthLimit waiting) (opens-here p (w .at) e) ∙ lt-leb depthLimit (length waiting) (omega (arith, waiting-length)) in
-      let y = bracket-opens s offset p t w stack (waits-here same) (lined-here s offset p labels ds k t₀ o h) e d labels ds in
+      let r : tooDeep depthLimit waiting roleHere ≡ false = ap (tooDeep depthLimit waiting) (opens-here p (w .at) (e .opening)) ∙ lt-leb depthLimit (length waiting) (omega (arith, waiting-length)) in
+      let y = bracket-opens s offset p t w stack (waits-here same) (lined-here s offset p labels ds k t₀ o h) n e d labels ds in
       rw (ew, es, el, ez, eu) (bracket-on r same y, bracket-less r same y)
 
   pub close-turn : length t ≡ length t₀ → Closing p w → {w″ : Walk} {u″ : List ℕ} → Brackets s offset p labels ds w stack t w″ stack u″
@@ -149,18 +159,21 @@ module _ (s : List ℕ) (offset : ℕ) (p : List ℕ) (labels : List (List ℕ))
       let r : tooDeep depthLimit waiting roleHere ≡ false = ap (tooDeep depthLimit waiting) (closes-here p (w .at) (c .close-at)) in
       rw (ew, es, eu) (bracket-on r same y, bracket-less r same y)
 
-  pub piece-turn : (getD p (w .at) 0 ≡ 91 → ⊥) → (eqb (getD p (w .at) 0) 93 && ltb 0 (w .depth)) ≡ false → {w″ : Walk} {u″ : List ℕ} → Steps s offset p labels ds alone w t w″ u″
+  pub piece-turn : {n : ℕ} → n ≡ openingSize p (w .at) → n ≤ 0 → (eqb (getD p (w .at) 0) 93 && ltb 0 (w .depth)) ≡ false → {w″ : Walk} {u″ : List ℕ} → Steps s offset p labels ds alone w t w″ u″
       → (w″ .depth ≡ w .depth) × Before s (w″ .line) (offset + w .at) → {w′ : Walk} {stack′ u : List ℕ} → w′ ≡ w″ → stack′ ≡ stack → u ≡ u″ → Turned w′ stack′ u
-  piece-turn n f y (d, b) ew es eu =
+  piece-turn en l f y (d, b) ew es eu =
+      let n : openingSize p (w .at) ≡ 0 = omega arith in
       let m = unpaired (getD p (w .at) 0) (w .depth) f in
       rw (ew, es, eu) (piece-on n m y d b, piece-less n m y d)
 
-  -- ---- a `[` too many
-  pub deep-reads : getD p (w .at) 0 ≡ 91 → w .depth ≡ depthLimit → (u : List ℕ) → Reads s offset p labels ds k t₀ (Deep (w .at)) u
+  -- ---- a bracket too many
+  pub deep-reads : {n : ℕ} → n ≡ openingSize p (w .at) → 0 < n → w .depth ≡ depthLimit → (u : List ℕ) → Reads s offset p labels ds k t₀ (Deep (w .at + n - 1)) u
   unfolding over
-  deep-reads e d u =
-      let q : over depthLimit (grammar p labels) ≡ some (w .at) =
-      sym (o .same-over) ∙ overs-deep depthLimit (grammar p labels) (record { place = w .at; stack = waiting; last-link = w .last; spans = o .xs }) h (ap (tooDeep depthLimit waiting) (opens-here p (w .at) e) ∙ le-leb depthLimit (length waiting) (omega (arith, waiting-length))) in
+  deep-reads {n} en l d u =
+      let y = opens-there p (w .at) en l in
+      let q : over depthLimit (grammar p labels) ≡ some (w .at + n - 1) =
+      sym (o .same-over) ∙ overs-deep depthLimit (grammar p labels) (record { place = w .at; stack = waiting; last-link = w .last; spans = o .xs }) h (ap (tooDeep depthLimit waiting) (opens-here p (w .at) (y .opening)) ∙ le-leb depthLimit (length waiting) (omega (arith, waiting-length)))
+      ∙ ap (λ (a : ℕ). some (a - 1)) (ap (λ (x : Piece). x .end) (at-opening p (w .at) (y .opening)) ∙ y .ends) in
       record {
         walk = w;
         answer = sym (ap (λ (x : Option ℕ). tallyOf x w) q);

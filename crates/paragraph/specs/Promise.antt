@@ -7,13 +7,13 @@ use Rattle.line.specs.Line.{lineOf}
 use Rattle.line.specs.Promise.{Before}
 use Rattle.note.specs.Note.{depthLimit}
 use Rattle.marking.specs.Marking.{Role, role}
-use Rattle.marking.specs.Reading.{Match, foundBy, stackBy, pieceAt}
+use Rattle.marking.specs.Reading.{Match, sortOf, foundBy, stackBy, pieceAt}
 use Rattle.marking.specs.ReadingSpans.{spans, over}
 use Rattle.row.specs.declared.Definition.{Definition}
 use Rattle.span.specs.Row.{wholeRows}
 use Rattle.inline.specs.Tails.{Tail}
 use Rattle.inline.specs.Reading.{grammar}
-use Rattle.step.specs.Promise.{Steps}
+use Rattle.step.specs.Promise.{Opening, openEnd, Steps}
 use Rattle.step.specs.Reading.{rowsFor, storedAll}
 use Rattle.step.specs.declared.Walk.{Walk}
 use Rattle.paragraph.specs.declared.Tally.{Tally}
@@ -28,25 +28,26 @@ abbrev pub lineBeside : List ℕ → ℕ → ℕ
 lineBeside stack i = getD stack (depthLimit + i) 0
 
 -- In the paragraph p at place `offset` of the note s, the stack has room for as many places as may be open, and for their lines. Each place on it
--- lies before the walk's, and a `[` stands there; and while one of so many rows can still be stored, the line beside it is its line.
+-- is that of a `[` or `![` that ends before the walk's; and while one of so many rows can still be stored, the line beside it is its line.
 pub record Waits (s : List ℕ) (offset : ℕ) (p : List ℕ) (rows : ℕ) (w : Walk) (stack : List ℕ) : Type 0 where
   pub room : depthLimit + depthLimit ≤ length stack
   pub fits : w .depth ≤ depthLimit
-  pub each : (i : ℕ) → i < w .depth → (getD p (getD stack i 0) 0 ≡ 91) × (getD stack i 0 < w .at)
+  pub each : (i : ℕ) → i < w .depth → Opening p (getD stack i 0) × (openEnd p (getD stack i 0) ≤ w .at)
   pub lines-are : w .row < rows → (i : ℕ) → i < w .depth → lineBeside stack i ≡ lineOf s (offset + getD stack i 0)
 
--- past a `[`, which is open from now on
-abbrev pub opened : Walk → Walk
-opened w = record { at = w .at + 1; last = w .last; row = w .row; depth = w .depth + 1; line = w .line }
+-- past an opening piece of n bytes, whose bracket is open from now on
+abbrev pub opened : ℕ → Walk → Walk
+opened n w = record { at = w .at + n; last = w .last; row = w .row; depth = w .depth + 1; line = w .line }
 
 -- the stack with the walk's place and this line on top
 abbrev pub pushed : List ℕ → Walk → ℕ → List ℕ
 pushed stack w line = set (set stack (w .depth) (w .at)) (depthLimit + w .depth) line
 
--- the stack has room for the walk's place and its line, and both are 32-bit numbers
-pub record Room (offset : ℕ) (w : Walk) (stack : List ℕ) : Type 0 where
+-- the stack has room for the walk's place and its line, and both are 32-bit numbers, as is the place n bytes on
+pub record Room (offset : ℕ) (w : Walk) (n : ℕ) (stack : List ℕ) : Type 0 where
   pub inside : depthLimit + w .depth < length stack
-  pub fits : offset + w .at + 1 < 2 ^ 32
+  pub some : 0 < n
+  pub fits : offset + w .at + n < 2 ^ 32
 
 -- a `]` at the walk's place, while a bracket is open
 pub record Closing (p : List ℕ) (w : Walk) : Type 0 where
@@ -76,7 +77,7 @@ module _ (s : List ℕ) (offset : ℕ) (p : List ℕ) (labels : List (List ℕ))
 
   -- what the piece at v's place comes to where these brackets are open
   abbrev pub matchAt : Walk → List ℕ → Match Tail
-  matchAt v waiting = foundBy (λ a. grammar p labels .tailAt (grammar p labels .endAt a) (v .at)) (v .last) waiting (roleAt (v .at))
+  matchAt v waiting = foundBy (λ a. sortOf (grammar p labels .kindAt a)) (λ a. grammar p labels .tailAt (grammar p labels .endAt a) (v .at)) (v .last) waiting (roleAt (v .at))
 
   -- A step past a bracket, from v with a stack and the table t to w with the stack′ and the table u.
   pub record Brackets (v : Walk) (stack t : List ℕ) (w : Walk) (stack′ u : List ℕ) : Type 0 where

@@ -16,7 +16,7 @@ stack = 3 ∷ 7 ∷ 5 ∷ []
 
 pub record Open : Type 0 where
   pub two : openPlaces walk stack ≡ 7 ∷ 3 ∷ []
-  pub one-more : openPlaces (opened walk) (set stack 2 9) ≡ 9 ∷ 7 ∷ 3 ∷ []
+  pub one-more : openPlaces (opened 1 walk) (set stack 2 9) ≡ 9 ∷ 7 ∷ 3 ∷ []
 
 pub samples : Open
 samples = record { two = refl; one-more = refl }

@@ -24,11 +24,19 @@ pub enum Tally {
     Spans(Walk),
 }
 
-// Past the `[` at the walk's place, which is open from now on. Its place is kept in the first half of the stack, its line in the second.
-fn open_bracket(note: &[u8], start: usize, spans: &[u32], w: Walk, stack: &mut [u32]) -> Walk
+// Past the opening piece of `size` bytes at the walk's place, whose bracket is open from now on. Its place is kept in the first half of the
+// stack, its line in the second.
+fn open_bracket(
+    note: &[u8],
+    start: usize,
+    spans: &[u32],
+    w: Walk,
+    size: usize,
+    stack: &mut [u32],
+) -> Walk
     requires { ⌜ Lined (now note) start w ⌝ }
-    requires { ⌜ Room start w (now stack) ⌝ }
-    ensures { λ r. ⌜ r ≡ opened (lined (now (note .entry)) start (now (spans .entry)) w) ⌝ }
+    requires { ⌜ Room start w size (now stack) ⌝ }
+    ensures { λ r. ⌜ r ≡ opened size (lined (now (note .entry)) start (now (spans .entry)) w) ⌝ }
     ensures { λ r. ⌜ now (stack .exit) ≡ pushed (now (stack .entry)) w (r .line .number) ⌝ }
 {
     let at = w.at;
@@ -36,7 +44,7 @@ fn open_bracket(note: &[u8], start: usize, spans: &[u32], w: Walk, stack: &mut [
     let mut v = step::count_lines(note, start, spans, w);
     stack[depth] = at as u32;
     stack[DEPTH_LIMIT + depth] = v.line.number as u32;
-    v.at = at + 1;
+    v.at = at + size;
     v.depth = depth + 1;
     v
 }
@@ -109,13 +117,13 @@ pub fn read_paragraph<'a>(
     let mut w = step::afresh(from);
     while w.at < p.len() {
         let at = w.at;
-        let b = p[at];
-        if b == 91 {
+        let size = step::opening_size(p, at);
+        if 0 < size {
             if w.depth == DEPTH_LIMIT {
-                return Tally::Deep(at);
+                return Tally::Deep(at + size - 1);
             }
-            w = open_bracket(note, start, spans, w, stack);
-        } else if (b == 93) & (0 < w.depth) {
+            w = open_bracket(note, start, spans, w, size, stack);
+        } else if (p[at] == 93) & (0 < w.depth) {
             w = close_bracket(p, start, note, sheet, table, count, spans, w, stack, marks);
         } else {
             w = step::pass_piece(p, start, note, spans, w, runs);

@@ -5,4 +5,5 @@ pub mod Demand1
 -- what follows from the promise
 pub mod Promise
 -- the returns of the code
+pub mod Written
 pub mod Returns

@@ -1,13 +1,10 @@
--- What the page writer has done at each return, and that it keeps the promise. A part of the page buffer that was lent empty comes back empty, before the buffer itself.
-use Prim.Native.Nat.{ℕ, _+_, _≤_, _<_}
-use native.Mathlib.Nat.{zero-add}
+-- What the page writer has done at each return, and that it keeps the promise.
+use Prim.Native.Nat.{ℕ, _≤_}
 use native.Mathlib.Omega.{arith}
 use mathlib.Core.Path.{_≡_, refl, sym, ap, _∙_, subst}
-use mathlib.Core.List.{List, [], _++_}
+use mathlib.Core.List.{List}
 use mathlib.Core.Bool.{Bool}
-use borrow.Author.Tests.{lt-ltb, le-ltb}
 use lib.ListN.{length}
-use lib.Seq.{sets-eq}
 use Rattle.texts.specs.Texts.{Texts}
 use Rattle.texts.specs.Answers.{GoodTexts}
 use Rattle.row.specs.Row as definitionTable
@@ -16,8 +13,6 @@ use Rattle.joined.specs.Reading.{joined, Listing}
 use Rattle.span.specs.Row as spanTable
 use Rattle.note.specs.Reading.{spanRows}
 use Rattle.note.proofs.EachRow.{each-row-iff}
-use Rattle.buffer.specs.Stored.{Writes}
-use Rattle.buffer.proofs.Writing.{measured}
 use Rattle.page.specs.Reading.{pageOf}
 use Rattle.cursor.specs.Spanned.{Spanned}
 use Rattle.notice.specs.declared.Reading.{Reading}
@@ -30,9 +25,9 @@ use Rattle.notice.proofs.Answers.{definition-count, span-count}
 use Rattle.notice.proofs.Promise as reader-promise
 use Rattle.notice.proofs.Standing.{rows-stand}
 use Rattle.rendering.specs.declared.Rendering.{Rendering}
-use Rattle.rendering.specs.declared.Rendering.the-variants.{Rendered, Long, Bad, FewDefinitions, Conflicting, Deep, FewSpans, ShortPage}
+use Rattle.rendering.specs.declared.Rendering.the-variants.{Long, Bad, FewDefinitions, Conflicting, Deep, FewSpans}
 use Rattle.rendering.specs.Answers.{numberOf}
-use Rattle.rendering.specs.Reading.{afterReading, pageBufferOf}
+use Rattle.rendering.specs.Reading.{withPage, afterReading, pageBufferOf}
 use Rattle.rendering.specs.Promise.{Promise}
 use Rattle.rendering.proofs.Alike.{same-definitions, same-spans}
 use Rattle.rendering.proofs.Answers.{by-reader, promised}
@@ -103,21 +98,6 @@ module _ (p : List ℕ) {release : Bool} {T : Texts} {t u : List ℕ} {T′ : Te
           rows-are = rw table (entries-back T (joined T) t enough);
         }
 
-    -- the page is measured, and nothing is stored
-    module _ {part : List ℕ} {size : ℕ} (w : Writes [] 0 (pageOf T) part size) where
-      back : part ++ p ≡ p
-      back = ap (λ (l : List ℕ). l ++ p) (measured w)
-
-      size-is : size ≡ need
-      size-is = w .size ∙ zero-add need
-
-      pub short-page : length (part ++ p) < size → Promise release T t u p (ShortPage size) T′ t′ u′ (part ++ p)
-      short-page h =
-          let z : length p < need = omega (arith, ap length back, size-is) in
-          kept (rw (e, lt-ltb (length p) need z) (ap ShortPage (sym size-is))) back
-
-      pub page-written : size ≤ length (part ++ p) → {size′ : ℕ} {p′ : List ℕ} → Writes (part ++ p) 0 (pageOf T) p′ size′ → Promise release T t u p (Rendered d n size) T′ t′ u′ p′
-      page-written h {p′ = p′} v =
-          let z : need ≤ length p = omega (arith, ap length back, size-is) in
-          let y : 0 + need ≤ length p = omega arith in
-          kept (rw (e, le-ltb (length p) need z) (ap (Rendered d n) (sym size-is))) (v .stored ∙ rw back (sets-eq (pageOf T) p 0 y ∙ rw (zero-add need) refl))
+    -- and the page is measured, and written if it fits
+    pub page-done : {r : Rendering} {p′ : List ℕ} → r ≡ withPage need (length p) d n → p′ ≡ pageBufferOf T r p → Promise release T t u p r T′ t′ u′ p′
+    page-done f q = kept (ap (afterReading need (length p)) e ∙ sym f) q

@@ -1,4 +1,4 @@
--- The whole example of document 01, the empty note, a sheet and a release, by computation: answers, tables and pages.
+-- The whole example of document 01, the empty note, an image, a sheet and a release, by computation: answers, tables and pages.
 use Prim.Native.Nat.{ℕ}
 use mathlib.Core.Path.{_≡_, refl}
 use mathlib.Core.List.{List, [], _∷_, _++_, map, flatMap}
@@ -31,8 +31,8 @@ use Rattle.escaping.specs.Escaping.{escaped}
 use Rattle.href.specs.Href.{stays, hexDigit, hrefByte}
 use Rattle.escaping.specs.Reading.{undone}
 use Rattle.code.specs.Reading.{margin}
-use Rattle.html.specs.Reading.{titleAttribute, linkOpen}
-use Rattle.page.specs.Reading.{firstRow, writtenBy, contentFrom, paragraphPage, pageBy, pageOf}
+use Rattle.html.specs.Reading.{titleAttribute, linkOpen, imageOpen, imageClose}
+use Rattle.page.specs.Reading.{firstRow, tagged, writtenBy, contentFrom, paragraphPage, pageBy, pageOf}
 use Rattle.notice.specs.Reading.{readingOf, definitionTableOf, spanTableOf}
 use Rattle.rendering.specs.declared.Rendering.{Rendering}
 use Rattle.rendering.specs.declared.Rendering.the-variants.{Rendered, Bad, FewDefinitions, Conflicting, FewSpans, ShortPage}
@@ -101,6 +101,8 @@ samples =
     -- the empty note with an empty page
     ∷ sample [] 0 0 0 (Rendered 0 0 0) [] [] []
     ∷ sample [] 1 1 1 (Rendered 0 0 0) (old 1) (old 1) (old 1)
+    -- an image
+    ∷ sample (ascii "![a](b)") 0 11 31 (Rendered 0 1 31) [] (6 ∷ 0 ∷ 7 ∷ 2 ∷ 3 ∷ 0 ∷ 5 ∷ 6 ∷ 0 ∷ 0 ∷ 1 ∷ []) (ascii "<p><img src=\"b\" alt=\"a\" /></p>\n")
     -- with the definition in the sheet: the same page
     ∷ beside (texts (ascii "Use [max].") (ascii "[max]: /q2/max \"June\"")) 8 11 51 (Rendered 1 1 51) (1 ∷ 1 ∷ 4 ∷ 7 ∷ 14 ∷ 16 ∷ 20 ∷ 1 ∷ [])
     (5 ∷ 4 ∷ 9 ∷ 5 ∷ 8 ∷ 1 ∷ 7 ∷ 14 ∷ 16 ∷ 20 ∷ 1 ∷ []) html
@@ -139,5 +141,5 @@ unfolding feeds lineOf scanBytes run past leap closingStep closing onesFrom lead
     definition.lineAfter definition.titleAfter definition.endingAfter definition.afterLabel definition.afterIndent definition.definitionAt definition.takingFrom definition.definitionsFrom
     definition.paragraphEnd definition.paragraphFrom definition.definitionsOf definition.paragraphOf definition.definitionsIn definition.paragraphsIn definition.definitions definition.paragraphs
     countAfter runStep runDone closingRun pieceFrom closedAt afterDestination inlineOf labelAfter textTail tailOf labels rowsIn spanRows deepIn firstDeep
-    flatMap escaped stays hexDigit hrefByte undone margin titleAttribute linkOpen firstRow writtenBy contentFrom paragraphPage pageBy pageOf differ differsFrom conflictFrom firstConflict readingOf renderingOf
+    flatMap escaped stays hexDigit hrefByte undone margin titleAttribute linkOpen imageOpen imageClose firstRow tagged writtenBy contentFrom paragraphPage pageBy pageOf differ differsFrom conflictFrom firstConflict readingOf renderingOf
 samples-hold = refl

@@ -1,7 +1,12 @@
 // The page writer: a note's HTML.
 ghost use mathlib.Core.Path.{_≡_};
+ghost use lib.ListN.{length};
 ghost use Rattle.texts.specs.Texts.{texts};
+ghost use Rattle.joined.specs.Reading.{Listing};
+ghost use Rattle.page.specs.Reading.{pageOf};
+ghost use Rattle.cursor.specs.Spanned.{Spanned};
 ghost use Rattle.rendering.specs.Answers.{numberOf, valueOf, namedOf, definitionCount, spanCount, pageLength};
+ghost use Rattle.rendering.specs.Reading.{withPage, pageBufferOf};
 ghost use Rattle.rendering.specs.Promise.{Promise};
 use notice::Reading;
 
@@ -114,6 +119,31 @@ pub fn page_length(r: Rendering) -> u64
     }
 }
 
+// Writes the page of a note whose rows stand in both tables, if it fits: counts its bytes first, and then writes them.
+fn render_rows<'a>(
+    note: &'a [u8],
+    sheet: &'a [u8],
+    definitions: &[u32],
+    spans: &[u32],
+    d: usize,
+    n: usize,
+    page: &mut [u8],
+) -> Rendering
+    requires { ⌜ Spanned (texts (now note) (now sheet)) (now spans) n ⌝ }
+    requires { ⌜ Listing (texts (now note) (now sheet)) (now definitions) ⌝ }
+    ensures { λ r. ⌜ r ≡ withPage (length (pageOf (texts (now (note .entry)) (now (sheet .entry))))) (length (now (page .entry))) d n ⌝ }
+    ensures { λ r. ⌜ now (page .exit) ≡ pageBufferOf (texts (now (note .entry)) (now (sheet .entry))) r (now (page .entry)) ⌝ }
+{
+    let mut starts = [0u16; cursor::PLACES];
+    cursor::mark_starts(spans, n, &mut starts);
+    let need = writer::write_page(note, sheet, definitions, spans, n, &starts, &mut page[..0]);
+    if page.len() < need {
+        return Rendering::ShortPage(need);
+    }
+    writer::write_page(note, sheet, definitions, spans, n, &starts, page);
+    Rendering::Rendered(d, n, need)
+}
+
 // Writes a note's page, with the sheet beside it: fills the two tables and the page buffer that are lent, or refuses.
 pub fn render<'a>(
     note: &'a [u8],
@@ -132,13 +162,6 @@ pub fn render<'a>(
         Reading::Conflicting(n) => Rendering::Conflicting(n),
         Reading::Deep(k) => Rendering::Deep(k),
         Reading::FewSpans(n) => Rendering::FewSpans(n),
-        Reading::Read(d, n) => {
-            let need = writer::write_page(note, sheet, definitions, spans, n, &mut page[..0]);
-            if page.len() < need {
-                return Rendering::ShortPage(need);
-            }
-            writer::write_page(note, sheet, definitions, spans, n, page);
-            Rendering::Rendered(d, n, need)
-        }
+        Reading::Read(d, n) => render_rows(note, sheet, definitions, spans, d, n, page),
     }
 }

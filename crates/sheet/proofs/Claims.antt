@@ -1,5 +1,5 @@
 -- What a sheet leaves as it is.
-use Prim.Native.Nat.{ℕ, zero, suc, _+_, _≤_, _<_}
+use Prim.Native.Nat.{ℕ, zero, suc, _≤_, _<_}
 use native.Mathlib.Omega.{arith}
 use mathlib.Core.Path.{_≡_, refl, sym, ap, ap₂, _∙_, subst}
 use mathlib.Core.Option.{Option, none, some}
@@ -29,7 +29,7 @@ use Rattle.definition.specs.Reading.{definitions}
 use Rattle.joined.specs.Joined.{listedIn}
 use Rattle.joined.specs.Reading.{joined}
 use Rattle.joined.proofs.Places.{length-joined}
-use Rattle.span.specs.Row.{fullKind}
+use Rattle.span.specs.Row.{isReference}
 use Rattle.note.specs.Reading as both
 use Rattle.note.specs.Claims.{lookedUp}
 use Rattle.note.proofs.Markings.{marked, list-is-read}
@@ -232,7 +232,7 @@ module _ (T : Texts) where
       subst (λ (l : List ℕ). Equal l label) (sym (ap (λ (m : List (List ℕ)). getD m (w .index) []) (joined-labels T) ∙ List·getD-append ls (alone.labels (T .sheet)) [] (w .index) (w .within))) (w .equal) in
       by (ltb (w .index) k) (λ e. absurd (f .first (w .index) (ltb-true (w .index) k e) equal)) (λ e. omega (arith, ltb-false (w .index) k e, w .within, size))
 
-  number : (row : List ℕ) → In row (both.spanRows T) → fullKind ≤ getD row 0 0 → There (alone.labels (T .note)) (bytesOf (T .note) (lookedUp row))
+  number : (row : List ℕ) → In row (both.spanRows T) → isReference (getD row 0 0) ≡ true → There (alone.labels (T .note)) (bytesOf (T .note) (lookedUp row))
       → getD row 5 0 ≤ length (definitions (T .note))
   number row i h w =
       let r = references-refer T (marked T) row i h in

@@ -4,6 +4,7 @@ use native.Mathlib.Omega.{arith}
 use mathlib.Core.Path.{_≡_, refl, sym, ap, ap₂, _∙_, subst}
 use mathlib.Core.Option.{Option, none, some}
 use mathlib.Core.List.{List, [], _∷_, _++_, flatMap}
+use mathlib.Core.Bool.{Bool, cond}
 use lib.ListN.{length, getD, length-map}
 use Rattle.scan.specs.Member.{In}
 use Rattle.texts.specs.Texts.{Texts, texts}
@@ -16,30 +17,42 @@ use Rattle.block.specs.Reading.{blocks}
 use Rattle.definition.specs.Reading.{definitionsIn, definitions, paragraphs}
 use Rattle.joined.specs.Reading.{joined}
 use Rattle.joined.proofs.Places.{length-joined}
+use Rattle.inline.specs.Rows.{rowEnd}
 use Rattle.note.proofs.Fits.{rows-fit}
+use Rattle.code.specs.Reading.{codeElement}
 use Rattle.html.specs.Tags.{paragraphOpen, paragraphClose}
-use Rattle.html.specs.Reading.{linkOpen}
-use Rattle.page.specs.Reading.{destination, title, firstRow, codeStarts, linkStarts, linkCloses, targetText, Written}
+use Rattle.page.specs.Page.{tagIf}
+use Rattle.page.specs.Reading.{isCode, rowStart, textStart, textEnd, text, firstRow, starts, closes, tagged, targetText, Written}
 use Rattle.page.specs.Reading as page
 use Rattle.page.proofs.Found.{found-in}
-use Rattle.sheet.specs.Alone.{labels, spanRows, writtenBy, writtenAt, contentFrom, paragraphPage, pageOf}
+use Rattle.sheet.specs.Alone.{labels, spanRows, openTag, closeTag, started, closed, writtenBy, writtenAt, contentFrom, paragraphPage, pageOf}
 use Rattle.sheet.specs.Claims.{EachThere}
 use Rattle.sheet.proofs.Lists.{named-note}
 use Rattle.sheet.proofs.Spans.{span-rows-alone}
 
 -- ---- where each row's destination and title lie in the note
 module _ (T : Texts) (js : List Listed) (rows : List (List ℕ)) (own : (r : List ℕ) → In r rows → targetText T js r ≡ T .note) where
-  written-by : (a o c : Option (List ℕ)) (l : List ℕ) → ((r : List ℕ) → o ≡ some r → In r rows) → page.writtenBy T js a o c l ≡ writtenBy (T .note) a o c l
+  started-same : (tags : Bool) (r : List ℕ) → In r rows → page.started T js tags r ≡ started (T .note) tags r
+  started-same tags r i =
+      ap
+      (λ (s : List ℕ).
+      cond (isCode r) (record { size = rowEnd r - rowStart r; bytes = codeElement tags (bytesOf (T .note) (text r)) })
+      (record { size = textStart r - rowStart r; bytes = tagIf tags (openTag s r) }))
+      (own r i)
+
+  closed-same : (tags : Bool) (r : List ℕ) → In r rows → page.closed T js tags r ≡ closed (T .note) tags r
+  closed-same tags r i = ap (λ (s : List ℕ). record { size = rowEnd r - textEnd r; bytes = tagIf tags (closeTag s r) }) (own r i)
+
+  written-by : (a c : Option (List ℕ)) (l : List ℕ) → ((r : List ℕ) → a ≡ some r → In r rows) → ((r : List ℕ) → c ≡ some r → In r rows)
+      → page.writtenBy T js rows a c l ≡ writtenBy (T .note) rows a c l
   unfolding page.writtenBy writtenBy
-  written-by (some r) o c l i = refl
-  written-by none (some r) c l i =
-      ap (λ (s : List ℕ). record { size = 1; bytes = linkOpen (bytesOf s (destination r)) (bytesOf s (title r)) }) (own r (i r refl))
-  written-by none none (some r) l i = refl
-  written-by none none none l i = refl
+  written-by (some r) c l i k = started-same (tagged rows r) r (i r refl)
+  written-by none (some r) l i k = closed-same (tagged rows r) r (k r refl)
+  written-by none none l i k = refl
 
   written-same : (l : List ℕ) (at : ℕ) → page.writtenAt T js rows l at ≡ writtenAt (T .note) rows l at
   written-same l at =
-      written-by (firstRow (codeStarts at) rows) (firstRow (linkStarts at) rows) (firstRow (linkCloses at) rows) l (λ r e. found-in (linkStarts at) rows r e .0)
+      written-by (firstRow (starts at) rows) (firstRow (closes at) rows) l (λ r e. found-in (starts at) rows r e .0) (λ r e. found-in (closes at) rows r e .0)
 
   content-same : (k : ℕ) (l : List ℕ) (at : ℕ) → page.contentFrom T js rows k l at ≡ contentFrom (T .note) rows k l at
   unfolding page.contentFrom contentFrom

@@ -13,7 +13,7 @@ use Rattle.texts.specs.Texts.{Texts}
 use Rattle.block.specs.Block.{Placed}
 use Rattle.label.specs.Reading.{isLabel}
 use Rattle.marking.specs.ReadingRules.{Grammar}
-use Rattle.marking.specs.Spans.{Span, codeSpan, linkSpan}
+use Rattle.marking.specs.Spans.{Span, codeSpan, pairSpan}
 use Rattle.marking.specs.ReadingSpans.{spans, over}
 use Rattle.row.specs.declared.Definition.{Definition}
 use Rattle.row.specs.Row.{absent, definition}
@@ -70,10 +70,10 @@ defined-front ds es k h = rw (List·getD-append ds es (definition absent absent 
 
 target-front : (offset : ℕ) (ds es : List Definition) (x : Span Tail) → targetOf offset ds x .number ≤ length ds → targetOf offset (ds ++ es) x ≡ targetOf offset ds x
 target-front offset ds es (codeSpan q) h = refl
-target-front offset ds es (linkSpan o c (inline n d t)) h = refl
-target-front offset ds es (linkSpan o c (full n k)) h = defined-front ds es k (omega arith)
-target-front offset ds es (linkSpan o c (collapsed k)) h = defined-front ds es k (omega arith)
-target-front offset ds es (linkSpan o c (shortcut k)) h = defined-front ds es k (omega arith)
+target-front offset ds es (pairSpan y o c (inline n d t)) h = refl
+target-front offset ds es (pairSpan y o c (full n k)) h = defined-front ds es k (omega arith)
+target-front offset ds es (pairSpan y o c (collapsed k)) h = defined-front ds es k (omega arith)
+target-front offset ds es (pairSpan y o c (shortcut k)) h = defined-front ds es k (omega arith)
 
 module _ (s : List ℕ) (more : List (List ℕ)) (es : List Definition) (there : EachThere (labels s) more) where
   abbrev ls : List (List ℕ)

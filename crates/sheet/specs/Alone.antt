@@ -2,6 +2,7 @@
 use Prim.Native.Nat.{ℕ, zero, suc, _+_, _-_}
 use mathlib.Core.Option.{Option, none, some}
 use mathlib.Core.List.{List, [], _∷_, _++_, flatMap}
+use mathlib.Core.Bool.{Bool, cond}
 use Rattle.line.specs.Line.{lineOf}
 use Rattle.block.specs.Block.{Placed}
 use Rattle.row.specs.declared.Definition.{Definition}
@@ -13,8 +14,9 @@ use Rattle.note.specs.Reading.{rowsIn, deepIn}
 use Rattle.enquiry.specs.Answers.{ownLabels}
 use Rattle.code.specs.Reading.{codeElement}
 use Rattle.html.specs.Tags.{linkClose, paragraphOpen, paragraphClose}
-use Rattle.html.specs.Reading.{linkOpen}
-use Rattle.page.specs.Reading.{rowStart, textEnd, text, destination, title, firstRow, codeStarts, linkStarts, linkCloses, Written, unit}
+use Rattle.html.specs.Reading.{linkOpen, imageOpen, imageClose}
+use Rattle.page.specs.Page.{tagIf}
+use Rattle.page.specs.Reading.{isCode, isImage, rowStart, textStart, textEnd, text, destination, title, firstRow, starts, closes, tagged, Written, unit}
 
 -- ---- rows
 -- the row of a definition, seven numbers: "label start and end (inside the brackets), destination start and end, title start and end", and the line
@@ -32,16 +34,31 @@ unfoldable pub firstDeep : List ℕ → Option ℕ
 firstDeep s = deepIn (labels s) (paragraphs s)
 
 -- ---- the page: every destination and title is a part of the note
--- by the code span that starts there, the link that starts there, the link whose text ends there
-unfoldable pub writtenBy : List ℕ → Option (List ℕ) → Option (List ℕ) → Option (List ℕ) → List ℕ → Written
-writtenBy s (some r) o c l = record { size = rowEnd r - rowStart r; bytes = codeElement (bytesOf s (text r)) }
-writtenBy s none (some r) c l = record { size = 1; bytes = linkOpen (bytesOf s (destination r)) (bytesOf s (title r)) }
-writtenBy s none none (some r) l = record { size = rowEnd r - textEnd r; bytes = linkClose }
-writtenBy s none none none l = unit l
+-- what stands before the text of a link or the description of an image, and after it
+abbrev pub openTag : List ℕ → List ℕ → List ℕ
+openTag s r = cond (isImage r) (imageOpen (bytesOf s (destination r))) (linkOpen (bytesOf s (destination r)) (bytesOf s (title r)))
+
+abbrev pub closeTag : List ℕ → List ℕ → List ℕ
+closeTag s r = cond (isImage r) (imageClose (bytesOf s (title r))) linkClose
+
+-- what is written at the start of the row r, by whether tags are written for it, and where its text ends
+abbrev pub started : List ℕ → Bool → List ℕ → Written
+started s tags r =
+    cond (isCode r) (record { size = rowEnd r - rowStart r; bytes = codeElement tags (bytesOf s (text r)) })
+    (record { size = textStart r - rowStart r; bytes = tagIf tags (openTag s r) })
+
+abbrev pub closed : List ℕ → Bool → List ℕ → Written
+closed s tags r = record { size = rowEnd r - textEnd r; bytes = tagIf tags (closeTag s r) }
 
 module _ (s : List ℕ) (rows : List (List ℕ)) where
+  -- by the row that starts there, and the row whose text ends there
+  unfoldable pub writtenBy : Option (List ℕ) → Option (List ℕ) → List ℕ → Written
+  writtenBy (some r) c l = started s (tagged rows r) r
+  writtenBy none (some r) l = closed s (tagged rows r) r
+  writtenBy none none l = unit l
+
   abbrev pub writtenAt : List ℕ → ℕ → Written
-  writtenAt l at = writtenBy s (firstRow (codeStarts at) rows) (firstRow (linkStarts at) rows) (firstRow (linkCloses at) rows) l
+  writtenAt l at = writtenBy (firstRow (starts at) rows) (firstRow (closes at) rows) l
 
   -- what is left of a paragraph, from place `at` of the note on, after the next k bytes
   unfoldable pub contentFrom : ℕ → List ℕ → ℕ → List ℕ

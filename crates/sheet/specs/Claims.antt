@@ -3,14 +3,14 @@
 use Prim.Native.Nat.{ℕ, _≤_, _<_}
 use mathlib.Core.Path.{_≡_}
 use mathlib.Core.List.{List, []}
-use mathlib.Core.Bool.{false}
+use mathlib.Core.Bool.{true, false}
 use lib.ListN.{length, getD}
 use Rattle.scan.specs.Member.{In}
 use Rattle.texts.specs.Texts.{Texts, texts}
 use Rattle.matching.specs.Form.{Equal}
 use Rattle.row.specs.First.{bytesOf, namedText}
 use Rattle.definition.specs.Reading.{definitions}
-use Rattle.span.specs.Row.{fullKind}
+use Rattle.span.specs.Row.{isReference}
 use Rattle.note.specs.Reading as both
 use Rattle.note.specs.Note.{Marked}
 use Rattle.note.specs.Claims.{lookedUp}
@@ -57,9 +57,9 @@ EachThere labels others = (i : ℕ) → i < length others → There labels (getD
 -- A label that the note defines never opens the sheet's: a reference row whose label the note defines has the number of one of the note's definitions, and its
 -- destination and title lie in the note. (Of the enquiry: `NoteWins`.)
 pub record NoteFirst (T : Texts) : Type 0 where
-  pub number : (row : List ℕ) → In row (both.spanRows T) → fullKind ≤ getD row 0 0 → There (alone.labels (T .note)) (bytesOf (T .note) (lookedUp row))
+  pub number : (row : List ℕ) → In row (both.spanRows T) → isReference (getD row 0 0) ≡ true → There (alone.labels (T .note)) (bytesOf (T .note) (lookedUp row))
       → getD row 5 0 ≤ length (definitions (T .note))
-  pub text : (n : Marked T) (row : List ℕ) → In row (both.spanRows T) → fullKind ≤ getD row 0 0 → There (alone.labels (T .note)) (bytesOf (T .note) (lookedUp row))
+  pub text : (n : Marked T) (row : List ℕ) → In row (both.spanRows T) → isReference (getD row 0 0) ≡ true → There (alone.labels (T .note)) (bytesOf (T .note) (lookedUp row))
       → namedText T (n .list) (getD row 5 0) ≡ T .note
 
 -- A sheet that defines only labels that the note defines too: span rows, the first bracket too many and the page are those of the note alone.

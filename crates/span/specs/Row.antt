@@ -1,7 +1,10 @@
 -- Span rows, and what a table of them holds.
 use Prim.Native.Nat.{ℕ, _+_, _*_, _<_, _^_}
+use mathlib.Core.Bool.{Bool, _||_}
 use mathlib.Core.List.{List, [], _∷_}
+use lib.Dec.{eqb}
 use lib.ListN.{take, drop}
+use Rattle.scan.specs.Byte.{within}
 use Rattle.line.specs.Line.{lineOf}
 use Rattle.rows.specs.Rows
 use Rattle.row.specs.declared.Range.{Range}
@@ -32,7 +35,8 @@ numbersOn line x =
 abbrev pub numbers : List ℕ → Span → List ℕ
 numbers s x = numbersOn (lineOf s (x .whole .start)) x
 
--- ---- the five kinds: "The five kinds of row have fixed numbers: 1 code span, 2 inline, 3 full, 4 collapsed, 5 shortcut."
+-- ---- the nine kinds: "The five kinds of row have fixed numbers: 1 code span, 2 inline, 3 full, 4 collapsed, 5 shortcut", and document 02, request 5: "with kinds
+-- 6 inline, 7 full, 8 collapsed, 9 shortcut"
 abbrev pub codeSpanKind : ℕ
 codeSpanKind = 1
 
@@ -48,6 +52,26 @@ collapsedKind = 4
 abbrev pub shortcutKind : ℕ
 shortcutKind = 5
 
+abbrev pub inlineImageKind : ℕ
+inlineImageKind = 6
+
+abbrev pub fullImageKind : ℕ
+fullImageKind = 7
+
+abbrev pub collapsedImageKind : ℕ
+collapsedImageKind = 8
+
+abbrev pub shortcutImageKind : ℕ
+shortcutImageKind = 9
+
+-- of a full reference, a link or an image
+abbrev pub isFull : ℕ → Bool
+isFull kind = eqb kind fullKind || eqb kind fullImageKind
+
+-- of a reference: full, collapsed or shortcut
+abbrev pub isReference : ℕ → Bool
+isReference kind = within fullKind shortcutKind kind || within fullImageKind shortcutImageKind kind
+
 abbrev pub span : ℕ → Range → Range → ℕ → Range → Range → Span
 span k w x n d t = record { kind = k; whole = w; text = x; definition = n; destination = d; title = t }
 
@@ -56,6 +80,9 @@ codeSpanRow whole text = span codeSpanKind whole text 0 absent absent
 
 abbrev pub inlineRow : Range → Range → Range → Range → Span
 inlineRow whole text destination title = span inlineKind whole text 0 destination title
+
+abbrev pub inlineImageRow : Range → Range → Range → Range → Span
+inlineImageRow whole text destination title = span inlineImageKind whole text 0 destination title
 
 -- "definition number (from 1; 0 if none)": of the definition in row k of the definition table, where rows count from 0
 abbrev pub definitionNumber : ℕ → ℕ
@@ -72,6 +99,15 @@ collapsedRow = referenceRow collapsedKind
 
 abbrev pub shortcutRow : Range → Range → ℕ → Range → Range → Span
 shortcutRow = referenceRow shortcutKind
+
+abbrev pub fullImageRow : Range → Range → ℕ → Range → Range → Span
+fullImageRow = referenceRow fullImageKind
+
+abbrev pub collapsedImageRow : Range → Range → ℕ → Range → Range → Span
+collapsedImageRow = referenceRow collapsedImageKind
+
+abbrev pub shortcutImageRow : Range → Range → ℕ → Range → Range → Span
+shortcutImageRow = referenceRow shortcutImageKind
 
 -- ---- tables
 abbrev pub rows : List ℕ → List Span → List ℕ

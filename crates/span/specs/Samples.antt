@@ -1,13 +1,14 @@
 -- Span rows and tables of them, by computation.
 use Prim.Native.Nat.{ℕ}
 use mathlib.Core.Path.{_≡_, refl}
+use mathlib.Core.Bool.{true, false}
 use mathlib.Core.List.{List, [], _∷_, _++_, map}
 use lib.ListN.{replicate}
 use Rattle.scan.specs.Ascii.{ascii}
 use Rattle.line.specs.Line.{feeds, lineOf}
 use Rattle.rows.specs.Rows
 use Rattle.row.specs.Row.{range, absent}
-use Rattle.span.specs.Row.{numbersOn, codeSpanRow, inlineRow, fullRow, collapsedRow, shortcutRow, filled, rowAt}
+use Rattle.span.specs.Row.{numbersOn, codeSpanRow, inlineRow, fullRow, collapsedRow, shortcutRow, inlineImageRow, fullImageRow, collapsedImageRow, shortcutImageRow, isFull, isReference, filled, rowAt}
 use Rattle.span.specs.Reading.{spanAt, lineIn}
 
 -- ---- a row of each kind, on line 3
@@ -24,6 +25,11 @@ pub record SpanRows : Type 0 where
   pub collapsed-row : numbersOn 3 (collapsedRow (range 20 25) (range 21 22) 1 (range 16 18) absent) ≡ 4 ∷ 20 ∷ 25 ∷ 21 ∷ 22 ∷ 2 ∷ 16 ∷ 18 ∷ 0 ∷ 0 ∷ 3 ∷ []
   -- "Span row 5 27 32 28 31 1 7 14 16 20.", and it gains 3
   pub shortcut-row : numbersOn 3 (shortcutRow (range 27 32) (range 28 31) 0 (range 7 14) (range 16 20)) ≡ 5 ∷ 27 ∷ 32 ∷ 28 ∷ 31 ∷ 1 ∷ 7 ∷ 14 ∷ 16 ∷ 20 ∷ 3 ∷ []
+  -- the same as images: `![a](/b "c")`, and `![a][b]`, `![b][]` and `![b]` after the second definition; the text starts two bytes after the span
+  pub inline-image : numbersOn 3 (inlineImageRow (range 0 12) (range 2 3) (range 5 7) (range 9 10)) ≡ 6 ∷ 0 ∷ 12 ∷ 2 ∷ 3 ∷ 0 ∷ 5 ∷ 7 ∷ 9 ∷ 10 ∷ 3 ∷ []
+  pub full-image : numbersOn 3 (fullImageRow (range 20 27) (range 22 23) 1 (range 16 18) absent) ≡ 7 ∷ 20 ∷ 27 ∷ 22 ∷ 23 ∷ 2 ∷ 16 ∷ 18 ∷ 0 ∷ 0 ∷ 3 ∷ []
+  pub collapsed-image : numbersOn 3 (collapsedImageRow (range 20 26) (range 22 23) 1 (range 16 18) absent) ≡ 8 ∷ 20 ∷ 26 ∷ 22 ∷ 23 ∷ 2 ∷ 16 ∷ 18 ∷ 0 ∷ 0 ∷ 3 ∷ []
+  pub shortcut-image : numbersOn 3 (shortcutImageRow (range 20 24) (range 22 23) 1 (range 16 18) absent) ≡ 9 ∷ 20 ∷ 24 ∷ 22 ∷ 23 ∷ 2 ∷ 16 ∷ 18 ∷ 0 ∷ 0 ∷ 3 ∷ []
 
 pub span-rows : SpanRows
 span-rows = record {
@@ -35,7 +41,21 @@ span-rows = record {
   full-row = refl;
   collapsed-row = refl;
   shortcut-row = refl;
+  inline-image = refl;
+  full-image = refl;
+  collapsed-image = refl;
+  shortcut-image = refl;
 }
+
+-- ---- the kinds of references, and of full ones
+abbrev kinds : List ℕ
+kinds = 1 ∷ 2 ∷ 3 ∷ 4 ∷ 5 ∷ 6 ∷ 7 ∷ 8 ∷ 9 ∷ []
+
+pub references : map isReference kinds ≡ false ∷ false ∷ true ∷ true ∷ true ∷ false ∷ true ∷ true ∷ true ∷ []
+references = refl
+
+pub fulls : map isFull kinds ≡ false ∷ false ∷ true ∷ false ∷ false ∷ false ∷ true ∷ false ∷ false ∷ []
+fulls = refl
 
 -- ---- tables of n nines, filled with the rows of two spans
 -- a link that starts on the first line and ends on the second, and a code span in its text

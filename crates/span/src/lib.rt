@@ -3,11 +3,11 @@ ghost use mathlib.Core.Path.{_≡_};
 ghost use Prim.Native.Nat.{_+_, _<_, _^_};
 ghost use lib.ListN.{length};
 ghost use Rattle.row.specs.Row.{SmallPart};
-ghost use Rattle.span.specs.Row.{codeSpanRow, inlineRow, referenceRow, fullRow, collapsedRow, shortcutRow, Small, wholeRows, storedHalf, storedOn};
+ghost use Rattle.span.specs.Row.{codeSpanRow, inlineRow, referenceRow, fullRow, collapsedRow, shortcutRow, inlineImageRow, fullImageRow, collapsedImageRow, shortcutImageRow, Small, wholeRows, storedHalf, storedOn};
 ghost use Rattle.span.specs.Reading.{spanAt};
 use row::Range;
 
-// A code span or a link: its kind, from where to where it runs, the text between its backtick strings or brackets, the
+// A code span, a link or an image: its kind, from where to where it runs, the text between its backtick strings or brackets, the
 // number of its definition (from 1; 0 if none), and its target.
 pub struct Span {
     pub kind: u32,
@@ -32,6 +32,14 @@ impl Span {
 
     pub const SHORTCUT: u32 = 5;
 
+    pub const INLINE_IMAGE: u32 = 6;
+
+    pub const FULL_IMAGE: u32 = 7;
+
+    pub const COLLAPSED_IMAGE: u32 = 8;
+
+    pub const SHORTCUT_IMAGE: u32 = 9;
+
     pub fn code_span(whole: Range, text: Range) -> Span
         ensures { λ r. ⌜ r ≡ codeSpanRow whole text ⌝ }
     {
@@ -50,6 +58,19 @@ impl Span {
     {
         Span {
             kind: Span::INLINE,
+            whole,
+            text,
+            definition: 0,
+            destination,
+            title,
+        }
+    }
+
+    pub fn inline_image(whole: Range, text: Range, destination: Range, title: Range) -> Span
+        ensures { λ r. ⌜ r ≡ inlineImageRow whole text destination title ⌝ }
+    {
+        Span {
+            kind: Span::INLINE_IMAGE,
             whole,
             text,
             definition: 0,
@@ -99,6 +120,39 @@ impl Span {
         ensures { λ r. ⌜ r ≡ shortcutRow whole text k destination title ⌝ }
     {
         Span::reference(Span::SHORTCUT, whole, text, k, destination, title)
+    }
+
+    pub fn full_image(whole: Range, text: Range, k: usize, destination: Range, title: Range) -> Span
+        requires { ⌜ k + 1 < 2 ^ 32 ⌝ }
+        ensures { λ r. ⌜ r ≡ fullImageRow whole text k destination title ⌝ }
+    {
+        Span::reference(Span::FULL_IMAGE, whole, text, k, destination, title)
+    }
+
+    pub fn collapsed_image(
+        whole: Range,
+        text: Range,
+        k: usize,
+        destination: Range,
+        title: Range,
+    ) -> Span
+        requires { ⌜ k + 1 < 2 ^ 32 ⌝ }
+        ensures { λ r. ⌜ r ≡ collapsedImageRow whole text k destination title ⌝ }
+    {
+        Span::reference(Span::COLLAPSED_IMAGE, whole, text, k, destination, title)
+    }
+
+    pub fn shortcut_image(
+        whole: Range,
+        text: Range,
+        k: usize,
+        destination: Range,
+        title: Range,
+    ) -> Span
+        requires { ⌜ k + 1 < 2 ^ 32 ⌝ }
+        ensures { λ r. ⌜ r ≡ shortcutImageRow whole text k destination title ⌝ }
+    {
+        Span::reference(Span::SHORTCUT_IMAGE, whole, text, k, destination, title)
     }
 }
 

@@ -35,11 +35,12 @@ use Rattle.tail.specs.declared.Way.the-variants as ways
 use Rattle.tail.specs.declared.ReadTail.{ReadTail}
 use Rattle.tail.specs.declared.Ending.{Ending}
 use Rattle.tail.specs.Ending.{labelsIn, shownBy, shown, shown?}
-use Rattle.link.specs.Reading.{linkRow, Names}
-use Rattle.step.specs.Promise.{Pair, Bounds}
+use Rattle.link.specs.Reading.{textFrom, pairRow, Names}
+use Rattle.step.specs.Promise.{isImage, openEnd, Pair, Bounds}
 use Rattle.step.specs.declared.Walk.{Walk}
-use Rattle.link.proofs.LinkRows.{definition-in}
+use Rattle.link.proofs.PairRows.{definition-in}
 use Rattle.inline.proofs.Pieces.{at-close}
+use Rattle.step.proofs.Openings.{text-after}
 
 abbrev pub PartTo : ℕ → Option Range → Type 0
 PartTo n none = Unit {0}
@@ -56,7 +57,7 @@ abbrev Bounded? : ℕ → ℕ → Option Tail → Type 0
 Bounded? m n none = Unit {0}
 Bounded? m n (some t) = Bounded m n t
 
--- ---- an inline link's tail
+-- ---- an inline tail
 moved-in : (n at : ℕ) (r : Range) → PartIn r n → PartTo (at + n) (moved at r)
 moved-in n at r i = by (eqb (r .start) 0) (λ e. rw e tt) (λ e. rw e (omega (arith, i .ordered, i .inside)))
 
@@ -110,7 +111,7 @@ module _ (start n : ℕ) (h : start + n < 2 ^ 32) where
   part-small none i = record { start = omega arith; end = omega arith }
   part-small (some r) (i, j) = record { start = omega arith; end = omega arith }
 
-  module _ (t : List ℕ) (count : ℕ) (few : count < 2 ^ 32) (small : (i : ℕ) → getD t i 0 < 2 ^ 32) (o c : ℕ) (a : o < c) (b : c < n) where
+  module _ (t : List ℕ) (count : ℕ) (few : count < 2 ^ 32) (small : (i : ℕ) → getD t i 0 < 2 ^ 32) (i : Bool) (o c : ℕ) (a : textFrom i o ≤ c) (b : c < n) where
     abbrev definitions : List Definition
     definitions = definitionsFrom t 0 count
 
@@ -121,34 +122,34 @@ module _ (start n : ℕ) (h : start + n < 2 ^ 32) where
     defined-small k d l =
         rw (definition-in t 0 count k d l) (record { start = small _; end = small _ }, record { start = small _; end = small _ })
 
-    pub link-small : (x : Tail) → Bounded count n x → c + 1 + lengthOf x ≤ n → Small (linkRow start definitions o c x)
-    link-small (inline size d t′) (i, j) e =
+    pub pair-small : (x : Tail) → Bounded count n x → c + 1 + lengthOf x ≤ n → Small (pairRow start definitions i o c x)
+    pair-small (inline size d t′) (l, m) e =
         record {
-          whole = record { start = omega arith; end = omega arith };
+          whole = record { start = omega (arith, text-after i o); end = omega arith };
           text = record { start = omega arith; end = omega arith };
           definition = omega arith;
-          destination = part-small d i;
-          title = part-small t′ j;
+          destination = part-small d l;
+          title = part-small t′ m;
         }
-    link-small (full size k) l e =
+    pair-small (full size k) l e =
         record {
-          whole = record { start = omega arith; end = omega arith };
-          text = record { start = omega arith; end = omega arith };
-          definition = omega arith;
-          destination = defined-small k _ l .0;
-          title = defined-small k _ l .1;
-        }
-    link-small (collapsed k) l e =
-        record {
-          whole = record { start = omega arith; end = omega arith };
+          whole = record { start = omega (arith, text-after i o); end = omega arith };
           text = record { start = omega arith; end = omega arith };
           definition = omega arith;
           destination = defined-small k _ l .0;
           title = defined-small k _ l .1;
         }
-    link-small (shortcut k) l e =
+    pair-small (collapsed k) l e =
         record {
-          whole = record { start = omega arith; end = omega arith };
+          whole = record { start = omega (arith, text-after i o); end = omega arith };
+          text = record { start = omega arith; end = omega arith };
+          definition = omega arith;
+          destination = defined-small k _ l .0;
+          title = defined-small k _ l .1;
+        }
+    pair-small (shortcut k) l e =
+        record {
+          whole = record { start = omega (arith, text-after i o); end = omega arith };
           text = record { start = omega arith; end = omega arith };
           definition = omega arith;
           destination = defined-small k _ l .0;
@@ -167,25 +168,30 @@ pub tail-here : (p : List ℕ) (labels : List (List ℕ)) (o c : ℕ) → tailOf
 tail-here p labels o c = ap (λ (l : List ℕ). tailOf labels (take (c - o) (drop o p)) l (c + 1)) (part-whole p (c + 1))
 
 -- what the tail reader answered, r, is x
-pub told-of : (at : ℕ) {r x : Ending} {y : Option Tail} → r ≡ x → shown? at r ≡ y → shown? at x ≡ y
-told-of at e told = sym (ap (shown? at) e) ∙ told
+pub told-of : (p : List ℕ) (labels : List (List ℕ)) (o c : ℕ) {from : ℕ} → from ≡ openEnd p o → {r x : Ending} → r ≡ x → shown? (c + 1) r ≡ tailAt p labels from c
+    → shown? (c + 1) x ≡ tailAt p labels (openEnd p o) c
+told-of p labels o c ef e told = sym (ap (shown? (c + 1)) e) ∙ told ∙ ap (λ (n : ℕ). tailAt p labels n c) ef
+
+-- the bracket stands within the paragraph
+pub opening-before : (p : List ℕ) (o c : ℕ) → Pair p o c → (o < c) × (o + 2 ≤ length p)
+opening-before p o c pair = omega (arith, text-after (isImage p o) o, pair .text .ordered, pair .text .inside)
 
 module _ (p : List ℕ) (T : Texts) (table : List ℕ) (start count o : ℕ) (w : Walk) (pair : Pair p o (w .at)) (bounds : Bounds start p count w) (fit : Fit T table count) (t : ReadTail)
-    (e : some (shown (w .at + 1) t) ≡ tailAt p (labelsIn T table count) (o + 1) (w .at)) where
+    (e : some (shown (w .at + 1) t) ≡ tailAt p (labelsIn T table count) (openEnd p o) (w .at)) where
   bounded : Bounded count (length p) (shown (w .at + 1) t)
   bounded =
-      let n : w .at + 1 + length (drop (w .at + 1) p) ≡ length p = rw length-drop (omega (arith, pair .inside)) in
+      let n : w .at + 1 + length (drop (w .at + 1) p) ≡ length p = rw length-drop (omega (arith, pair .text .inside)) in
       rw (← n, ← length-labels T table count)
-      (tail-bounded (labelsIn T table count) (take (w .at - (o + 1)) (drop (o + 1) p)) (drop (w .at + 1) p) (w .at + 1) (shown (w .at + 1) t) (sym e))
+      (tail-bounded (labelsIn T table count) (take (w .at - openEnd p o) (drop (openEnd p o) p)) (drop (w .at + 1) p) (w .at + 1) (shown (w .at + 1) t) (sym e))
 
   pub tail-end : w .at + 1 + lengthOf (shown (w .at + 1) t) ≤ length p
   tail-end =
-      let q = at-close p (w .at) (pair .close-at) in
-      rw q at (tail-within p (labelsIn T table count) (o + 1) (w .at) (shown (w .at + 1) t) (pair .inside) (ap (λ (x : Piece). role (x .kind)) q) (sym e))
+      let q = at-close p (w .at) (pair .text .close-at) in
+      rw q at (tail-within p (labelsIn T table count) (openEnd p o) (w .at) (shown (w .at + 1) t) (pair .text .inside) (ap (λ (x : Piece). role (x .kind)) q) (sym e))
 
   pub row-names : Names count table (t .way)
   row-names = names-by count table (length p) (w .at + 1) (t .length) (t .way) bounded (fit .room)
 
-  pub row-small : ((i : ℕ) → getD table i 0 < 2 ^ 32) → Small (linkRow start (definitionsFrom table 0 count) o (w .at) (shown (w .at + 1) t))
+  pub row-small : ((i : ℕ) → getD table i 0 < 2 ^ 32) → Small (pairRow start (definitionsFrom table 0 count) (isImage p o) o (w .at) (shown (w .at + 1) t))
   row-small small =
-      link-small start (length p) (bounds .places) table count (bounds .definitions) small o (w .at) (pair .before) (pair .inside) (shown (w .at + 1) t) bounded tail-end
+      pair-small start (length p) (bounds .places) table count (bounds .definitions) small (isImage p o) o (w .at) (pair .text .ordered) (pair .text .inside) (shown (w .at + 1) t) bounded tail-end

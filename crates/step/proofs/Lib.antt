@@ -1,4 +1,5 @@
 pub mod Marks
+pub mod Openings
 pub mod Bounds
 pub mod Step
 pub mod CodeSteps

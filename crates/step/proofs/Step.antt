@@ -1,16 +1,16 @@
 -- One step past a piece, by what the piece comes to.
-use Prim.Native.Nat.{ℕ, _+_, _≤_, _<_, _^_}
+use Prim.Native.Nat.{ℕ, _+_, _<_, _^_}
 use native.Mathlib.Omega.{arith}
 use mathlib.Core.Path.{_≡_, refl, sym, ap, _∙_, subst}
-use mathlib.Core.Bool.{Bool, true, false, cond}
+use mathlib.Core.Bool.{Bool, true, false, cond, not, _&&_}
 use mathlib.Core.Option.{Option, none, some}
 use mathlib.Core.List.{List, [], _∷_}
-use borrow.Author.Tests.{lt-ltb, le-ltb}
+use borrow.Author.Tests.{lt-ltb}
 use lib.Dec.{ltb}
 use lib.ListN.{getD}
-use Rattle.marking.specs.Marking.{code, Piece}
+use Rattle.marking.specs.Marking.{Kind, code, opens, Piece}
 use Rattle.marking.specs.Spans as marked
-use Rattle.marking.specs.Reading.{Match, alone, paired, linked, isCode, withTail, pieceAt}
+use Rattle.marking.specs.Reading.{Match, alone, paired, taken, sortOf, barred, isCode, withTail, pieceAt, lastAfter}
 use Rattle.line.specs.Line.{lineOf}
 use Rattle.line.specs.Promise.{lineIf, Before}
 use Rattle.line.specs.declared.Line.{Line}
@@ -24,10 +24,20 @@ use Rattle.inline.specs.Tails.{Tail, lengthOf}
 use Rattle.inline.specs.ReadingPieces.{piece, pieceFrom}
 use Rattle.inline.specs.Reading.{grammar, tailAt}
 use Rattle.inline.specs.ReadingRows.{rowFor}
-use Rattle.link.specs.Reading.{linkRow}
-use Rattle.step.specs.Promise.{Lined, fits, lined, spansAt, Steps, closing}
+use Rattle.link.specs.Reading.{sortBy, pairRow}
+use Rattle.step.specs.Promise.{Lined, fits, lined, Opening, isImage, openEnd, spansAt, Steps, closing}
 use Rattle.step.specs.declared.Walk.{Walk}
-use Rattle.inline.proofs.Pieces.{at-open, at-close}
+use Rattle.inline.proofs.Pieces.{at-close}
+use Rattle.step.proofs.Openings.{Opens, at-opening}
+
+-- whether a link lies between, and the last link afterwards, as the code tells them
+barred-by : (b : Bool) (o last : ℕ) → barred (sortBy b) o last ≡ (not b && ltb o last)
+barred-by true o last = refl
+barred-by false o last = refl
+
+last-by : (b : Bool) (o last : ℕ) (t : Tail) → cond b last o ≡ lastAfter last (taken (sortBy b) o t)
+last-by true o last t = refl
+last-by false o last t = refl
 
 abbrev codeSpans : Piece → List (marked.Span Tail)
 codeSpans q = marked.codeSpan q ∷ []
@@ -46,6 +56,12 @@ module _ (s : List ℕ) (offset : ℕ) (p : List ℕ) (labels : List (List ℕ))
       ∙ ap (λ (b : Bool). cond b (codeSpans (pieceAt (grammar p labels) (v .at))) []) k in
       record { at = ap (λ (x : Piece). x .end) (sym e); last = refl; row = rw z (omega arith); table = rw z refl }
 
+  -- nor is an opening piece in one yet
+  pub step-opens : (n : ℕ) → Opens p (v .at) n → Passed alone (v .at + n) (v .last) (v .row) t
+  step-opens n o =
+      let k : Kind = opens (sortBy (isImage p (v .at))) in
+      step-quiet (piece k (v .at) (v .at + n)) (at-opening p (v .at) (o .opening) ∙ ap (piece k (v .at)) (o .ends)) refl
+
   pub step-code : (e : ℕ) → pieceFrom p (v .at) ≡ piece code (v .at) e → {r : Span} {u : List ℕ} → r ≡ rowFor offset p ds (marked.codeSpan (piece code (v .at) e))
       → u ≡ stored s t (v .row) r → Passed alone e (v .last) (v .row + 1) u
   unfolding Rows.storedAll
@@ -54,43 +70,50 @@ module _ (s : List ℕ) (offset : ℕ) (p : List ℕ) (labels : List (List ℕ))
       ap (λ (x : Piece). cond (isCode (x .kind)) (codeSpans (piece (x .kind) (v .at) (x .end))) []) q in
       record { at = ap (λ (x : Piece). x .end) (sym q); last = refl; row = rw z refl; table = rw (z, ← er) eu }
 
-  -- ---- a `]`, with the `[` at place o
-  module _ (o : ℕ) (ho : getD p o 0 ≡ 91) (hc : getD p (v .at) 0 ≡ 93) where
-    tail-here : grammar p labels .tailAt (grammar p labels .endAt o) (v .at) ≡ tailAt p labels (o + 1) (v .at)
-    tail-here = ap (λ (x : Piece). tailAt p labels (x .end) (v .at)) (at-open p o ho)
+  -- ---- a `]`, with the `[` or `![` at place o
+  module _ (o : ℕ) (ho : Opening p o) (hc : getD p (v .at) 0 ≡ 93) where
+    -- it is no image, and a link opened after it already
+    abbrev held : Bool
+    held = not (isImage p o) && ltb o (v .last)
 
-    closing-by : (b : Bool) → ltb o (v .last) ≡ b → (x : Option Tail) → tailAt p labels (o + 1) (v .at) ≡ x → closing s offset p labels ds v o ≡ cond b (paired o) (withTail o x)
+    abbrev tailHere : Option Tail
+    tailHere = tailAt p labels (openEnd p o) (v .at)
+
+    abbrev closingAs : Piece → Match Tail
+    closingAs q = cond (barred (sortOf (q .kind)) o (v .last)) (paired o) (withTail (sortOf (q .kind)) o (tailAt p labels (q .end) (v .at)))
+
+    closing-by : (b : Bool) → held ≡ b → (x : Option Tail) → tailHere ≡ x → closing s offset p labels ds v o ≡ cond b (paired o) (withTail (sortBy (isImage p o)) o x)
     closing-by b eb x ex =
-        ap (λ (y : Bool). cond y (paired o) (withTail o (grammar p labels .tailAt (grammar p labels .endAt o) (v .at)))) eb
-        ∙ ap (λ (y : Option Tail). cond b (paired o) (withTail o y)) (tail-here ∙ ex)
+        ap closingAs (at-opening p o ho)
+        ∙ ap (λ (y : Bool). cond y (paired o) (withTail (sortBy (isImage p o)) o tailHere)) (barred-by (isImage p o) o (v .last) ∙ eb)
+        ∙ ap (λ (y : Option Tail). cond b (paired o) (withTail (sortBy (isImage p o)) o y)) ex
 
     paired-step : (f : Match Tail) → f ≡ paired o → Passed f (v .at + 1) (v .last) (v .row) t
     unfolding Rows.storedAll
     paired-step f e depth line =
         rw e (record { at = ap (λ (x : Piece). x .end) (sym (at-close p (v .at) hc)); last = refl; row = omega arith; table = refl })
 
-    -- a link opened after it already
-    pub step-held : o < v .last → Passed (closing s offset p labels ds v o) (v .at + 1) (v .last) (v .row) t
-    step-held h = paired-step _ (closing-by true (lt-ltb o (v .last) h) _ refl)
+    pub step-held : held ≡ true → Passed (closing s offset p labels ds v o) (v .at + 1) (v .last) (v .row) t
+    step-held h = paired-step _ (closing-by true h _ refl)
 
-    pub step-tailless : v .last ≤ o → none ≡ tailAt p labels (o + 1) (v .at) → Passed (closing s offset p labels ds v o) (v .at + 1) (v .last) (v .row) t
-    step-tailless h e = paired-step _ (closing-by false (le-ltb o (v .last) h) _ (sym e))
+    pub step-tailless : held ≡ false → none ≡ tailHere → Passed (closing s offset p labels ds v o) (v .at + 1) (v .last) (v .row) t
+    step-tailless h e = paired-step _ (closing-by false h _ (sym e))
 
-    linked-step : (f : Match Tail) (x : Tail) → f ≡ linked o x → {n : ℕ} {r : Span} {u : List ℕ} → n ≡ lengthOf x → r ≡ linkRow offset ds o (v .at) x
-        → u ≡ stored s t (v .row) r → Passed f (v .at + 1 + n) o (v .row + 1) u
+    taken-step : (f : Match Tail) (x : Tail) → f ≡ taken (sortBy (isImage p o)) o x → {n last : ℕ} {r : Span} {u : List ℕ} → n ≡ lengthOf x → last ≡ cond (isImage p o) (v .last) o
+        → r ≡ pairRow offset ds (isImage p o) o (v .at) x → u ≡ stored s t (v .row) r → Passed f (v .at + 1 + n) last (v .row + 1) u
     unfolding Rows.storedAll
-    linked-step f x e en er eu depth line =
+    taken-step f x e en el er eu depth line =
         rw e
         (record {
           at = rw (at-close p (v .at) hc, en);
-          last = refl;
+          last = el ∙ last-by (isImage p o) o (v .last) x;
           row = refl;
-          table = rw (at-close p (v .at) hc, at-open p o ho, ← er) eu;
+          table = rw (at-close p (v .at) hc, at-opening p o ho, ← er) eu;
         })
 
-    pub step-link : v .last ≤ o → (x : Tail) → some x ≡ tailAt p labels (o + 1) (v .at) → {n : ℕ} {r : Span} {u : List ℕ} → n ≡ lengthOf x → r ≡ linkRow offset ds o (v .at) x
-        → u ≡ stored s t (v .row) r → Passed (closing s offset p labels ds v o) (v .at + 1 + n) o (v .row + 1) u
-    step-link h x e = linked-step _ x (closing-by false (le-ltb o (v .last) h) _ (sym e))
+    pub step-taken : held ≡ false → (x : Tail) → some x ≡ tailHere → {n last : ℕ} {r : Span} {u : List ℕ} → n ≡ lengthOf x → last ≡ cond (isImage p o) (v .last) o
+        → r ≡ pairRow offset ds (isImage p o) o (v .at) x → u ≡ stored s t (v .row) r → Passed (closing s offset p labels ds v o) (v .at + 1 + n) last (v .row + 1) u
+    step-taken h x e = taken-step _ x (closing-by false h _ (sym e))
 
 -- ---- lines
 -- the row of a span whose line is known where it is stored

@@ -1,19 +1,22 @@
 -- One step of the code through a paragraph, past one piece.
-use Prim.Native.Nat.{ℕ, _+_, _-_, _<_, _^_}
+use Prim.Native.Nat.{ℕ, _+_, _-_, _≤_, _<_, _^_}
 use mathlib.Core.Path.{_≡_}
 use mathlib.Core.List.{List, [], _∷_, map}
-use mathlib.Core.Bool.{Bool}
-use lib.Dec.{ltb}
-use lib.ListN.{length, getD}
+use mathlib.Core.Bool.{Bool, true, cond}
+use mathlib.Core.Logic.{_⊎_}
+use lib.Dec.{ltb, eqb}
+use lib.ListN.{length, getD, drop}
 use Rattle.line.specs.Line.{lineOf}
 use Rattle.line.specs.Promise.{none, lineIf, Before}
 use Rattle.marking.specs.Spans as marked
-use Rattle.marking.specs.Reading.{Match, alone, foundClosing, pieceAt, placeAfter, lastAfter, newSpans}
+use Rattle.marking.specs.Reading.{Match, alone, sortOf, foundClosing, pieceAt, placeAfter, lastAfter, newSpans}
 use Rattle.row.specs.declared.Definition.{Definition}
 use Rattle.span.specs.Row.{wholeRows}
+use Rattle.inline.specs.Pieces.{imageOpens}
 use Rattle.inline.specs.Tails.{Tail}
 use Rattle.inline.specs.Reading.{grammar}
 use Rattle.inline.specs.ReadingRows.{rowFor}
+use Rattle.link.specs.Reading.{textFrom}
 use Rattle.step.specs.Reading.{storedAll}
 use Rattle.step.specs.declared.Walk.{Walk}
 
@@ -38,14 +41,34 @@ fits t w = ltb (w .row) (wholeRows t)
 abbrev pub lined : List ℕ → ℕ → List ℕ → Walk → Walk
 lined s offset t w = record { at = w .at; last = w .last; row = w .row; depth = w .depth; line = lineIf (fits t w) s (w .line) (offset + w .at) }
 
--- a `[` at place o and a `]` at place c
-pub record Pair (p : List ℕ) (o c : ℕ) : Type 0 where
-  pub open-at : getD p o 0 ≡ 91
+-- the bytes of the opening piece at a place, `[` or `![`; 0 where none starts
+abbrev pub openingSize : List ℕ → ℕ → ℕ
+openingSize p at = cond (eqb (getD p at 0) 91) 1 (cond (imageOpens (drop at p)) 2 0)
+
+-- `[` or `![` stands at place o
+abbrev pub Opening : List ℕ → ℕ → Type 0
+Opening p o = (getD p o 0 ≡ 91) ⊎ (imageOpens (drop o p) ≡ true)
+
+-- it is `![`
+abbrev pub isImage : List ℕ → ℕ → Bool
+isImage p o = eqb (getD p o 0) 33
+
+-- where it ends, and the text of its pair starts
+abbrev pub openEnd : List ℕ → ℕ → ℕ
+openEnd p o = textFrom (isImage p o) o
+
+-- a `]` at place c, and the text from place a to it
+pub record TextTo (p : List ℕ) (a c : ℕ) : Type 0 where
   pub close-at : getD p c 0 ≡ 93
-  pub before : o < c
+  pub ordered : a ≤ c
   pub inside : c < length p
 
--- a pair that closes at the walk's place, whose `[` is open, and the 32-bit number `line`, which is its line if a row more can be stored
+-- `[` or `![` at place o and a `]` at place c
+pub record Pair (p : List ℕ) (o c : ℕ) : Type 0 where
+  pub open-at : Opening p o
+  pub text : TextTo p (openEnd p o) c
+
+-- a pair that closes at the walk's place, whose opening bracket is open, and the 32-bit number `line`, which is its line if a row more can be stored
 pub record LinedPair (s : List ℕ) (offset : ℕ) (p t : List ℕ) (w : Walk) (o line : ℕ) : Type 0 where
   pub pair : Pair p o (w .at)
   pub some-open : 0 < w .depth
@@ -74,11 +97,11 @@ module _ (s : List ℕ) (offset : ℕ) (p : List ℕ) (labels : List (List ℕ))
     pub row : w .row ≡ v .row + length (spansAt (v .at) f)
     pub table : u ≡ storedAll s t (v .row) (map (rowFor offset p ds) (spansAt (v .at) f))
 
-  -- what the `]` at v's place comes to with the `[` at place o
+  -- what the `]` at v's place comes to with the `[` or `![` at place o
   abbrev pub closing : Walk → ℕ → Match Tail
-  closing v o = foundClosing (λ a. grammar p labels .tailAt (grammar p labels .endAt a) (v .at)) (v .last) (o ∷ [])
+  closing v o = foundClosing (λ a. sortOf (grammar p labels .kindAt a)) (λ a. grammar p labels .tailAt (grammar p labels .endAt a) (v .at)) (v .last) (o ∷ [])
 
-  -- past a `]` that closes a pair, whose `[` is then no longer open
+  -- past a `]` that closes a pair, whose opening bracket is then no longer open
   abbrev pub Closes : ℕ → Walk → List ℕ → Walk → List ℕ → Type 0
   Closes o v t w u = Steps (closing v o) v t w u × (w .depth ≡ v .depth - 1) × (w .line ≡ v .line)
 

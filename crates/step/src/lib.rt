@@ -1,5 +1,6 @@
 // Past one piece of a paragraph: what it comes to, and the row of the span that ends with it.
 ghost use mathlib.Core.Path.{_≡_};
+ghost use mathlib.Core.Bool.{cond};
 ghost use Prim.Native.Nat.{_+_, _<_};
 ghost use lib.ListN.{length};
 ghost use Rattle.texts.specs.Texts.{texts};
@@ -8,7 +9,7 @@ ghost use Rattle.parens.specs.Unclosed.{Prepared};
 ghost use Rattle.ticks.specs.LastRuns.{Ready};
 ghost use Rattle.inline.specs.Reading.{tailAt};
 ghost use Rattle.tail.specs.Ending.{labelsIn, shown?, Sized?};
-ghost use Rattle.step.specs.Promise.{first, afresh, lined, Pair, LinedPair, BacktickAt, Bounds, Lined, Closes, Passes};
+ghost use Rattle.step.specs.Promise.{first, afresh, lined, openingSize, TextTo, LinedPair, BacktickAt, Bounds, Lined, Closes, Passes};
 use line::Line;
 use row::Range;
 use scan::Found;
@@ -67,10 +68,27 @@ pub fn count_lines(note: &[u8], start: usize, spans: &[u32], w: Walk) -> Walk
     v
 }
 
-// The tail of the pair of brackets at `opening` and `closing`.
+// The bytes of the opening piece at a place: `[` or `![`. None starts there where it is 0.
+pub fn opening_size(p: &[u8], at: usize) -> usize
+    requires { ⌜ at < length (now p) ⌝ }
+    ensures { λ r. ⌜ r ≡ openingSize (now (p .entry)) at ⌝ }
+{
+    if p[at] == 91 {
+        return 1;
+    }
+    if p[at] != 33 {
+        return 0;
+    }
+    if scan::peek(p, at + 1) == 91 {
+        return 2;
+    }
+    0
+}
+
+// The tail of the pair whose text starts at `from` and whose closing bracket stands at `closing`.
 fn tail_at<'a>(
     p: &[u8],
-    opening: usize,
+    from: usize,
     closing: usize,
     note: &'a [u8],
     sheet: &'a [u8],
@@ -78,18 +96,28 @@ fn tail_at<'a>(
     count: usize,
     marks: &mut [u8],
 ) -> Ending
-    requires { ⌜ Pair (now p) opening closing ⌝ }
+    requires { ⌜ TextTo (now p) from closing ⌝ }
     requires { ⌜ Fit (texts (now note) (now sheet)) (now definitions) count ⌝ }
     requires { ⌜ Prepared (now p) closing (now marks) ⌝ }
-    ensures { λ r. ⌜ shown? (closing + 1) r ≡ tailAt (now (p .entry)) (labelsIn (texts (now (note .entry)) (now (sheet .entry))) (now (definitions .entry)) count) (opening + 1) closing ⌝ }
+    ensures { λ r. ⌜ shown? (closing + 1) r ≡ tailAt (now (p .entry)) (labelsIn (texts (now (note .entry)) (now (sheet .entry))) (now (definitions .entry)) count) from closing ⌝ }
     ensures { λ r. ⌜ Sized? r ⌝ }
     ensures { λ r. ⌜ Prepared (now (p .entry)) (closing + 1) (now (marks .exit)) ⌝ }
 {
     let next = closing + 1;
-    let text = &p[opening + 1..closing];
+    let text = &p[from..closing];
     let rest = &p[next..];
     let own = &mut marks[next..];
     tail::tail_after(text, rest, note, sheet, definitions, count, own)
+}
+
+// The place of the last link's `[` after the pair that opens at `opening` is taken: an image is no link.
+fn last_link(image: bool, last: usize, opening: usize) -> usize
+    ensures { λ r. ⌜ r ≡ cond image last opening ⌝ }
+{
+    if image {
+        return last;
+    }
+    opening
 }
 
 // Past the `]` at the walk's place, whose pair opens at `opening`, on this line if a row more can be stored. That bracket is open no
@@ -119,16 +147,18 @@ pub fn close_pair<'a>(
     let mut v = w;
     v.at = next;
     v.depth = w.depth - 1;
-    if opening < w.last {
+    let image = p[opening] == 33;
+    if !image & (opening < w.last) {
         return v;
     }
-    let Ending::With(t) = tail_at(p, opening, at, note, sheet, definitions, count, marks) else {
+    let from = link::text_from(image, opening);
+    let Ending::With(t) = tail_at(p, from, at, note, sheet, definitions, count, marks) else {
         return v;
     };
-    let row = link::link_row(start, opening, at, t, definitions, count);
+    let row = link::pair_row(start, image, opening, at, t, definitions, count);
     span::store(spans, w.row, row, line);
     v.at = next + t.length;
-    v.last = opening;
+    v.last = last_link(image, w.last, opening);
     v.row = w.row + 1;
     v
 }
@@ -166,7 +196,7 @@ fn pass_backticks(
     v
 }
 
-// Past a piece that is no bracket of a pair.
+// Past a piece that opens no bracket, and closes no pair.
 pub fn pass_piece(
     p: &[u8],
     start: usize,
@@ -176,6 +206,7 @@ pub fn pass_piece(
     runs: &mut [u32; ticks::LENGTHS],
 ) -> Walk
     requires { ⌜ w .at < length (now p) ⌝ }
+    requires { ⌜ openingSize (now p) (w .at) ≡ 0 ⌝ }
     requires { ⌜ Bounds start (now p) 0 w ⌝ }
     requires { ⌜ Lined (now note) start w ⌝ }
     requires { ⌜ Ready (now p) (now runs) ⌝ }

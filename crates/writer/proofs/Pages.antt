@@ -12,15 +12,14 @@ use Rattle.walk.specs.Reading.{paragraphsFrom, placedBetween}
 use Rattle.walk.specs.Promise.{FirstParagraph, IsParagraph}
 use Rattle.walk.proofs.Whole.{all-paragraphs}
 use Rattle.note.specs.Reading.{spanRows}
-use Rattle.buffer.specs.Stored.{Writes}
-use Rattle.buffer.specs.Stored.{Leads}
+use Rattle.buffer.specs.Stored.{Writes, Leads}
 use Rattle.buffer.proofs.Writing.{leads, onward, done, room}
 use Rattle.page.specs.Reading.{paragraphPage, pageBy, pageOf}
 use Rattle.page.proofs.Lengths.{page-most}
 use Rattle.writer.specs.declared.Pass.{Pass}
 use Rattle.cursor.specs.Spanned.{Spanned}
-use Rattle.writer.specs.Pass.{Cursors, Starts, Ends}
-use Rattle.writer.proofs.Paragraphs.{cursors-later}
+use Rattle.cursor.proofs.Cursors.{still-behind}
+use Rattle.writer.specs.Pass.{Cursor, Starts, Ends}
 
 -- the pages of the paragraphs from place `at` on
 abbrev pagesFrom : Texts → ℕ → List ℕ
@@ -28,16 +27,16 @@ pagesFrom T at = flatMap (paragraphPage T (joined T) (spanRows T)) (paragraphsFr
 
 pub record Pages (T : Texts) (page₀ page : List ℕ) (at : ℕ) (p : Pass) : Type 0 where
   pub written : Leads page₀ 0 (pageOf T) page (p .size) (pagesFrom T at)
-  pub cursors : Cursors T p at
+  pub cursor : Cursor T p at
 
 all-pages : (T : Texts) → pagesFrom T 0 ≡ pageOf T
 unfolding pageOf pageBy
 all-pages T = ap (flatMap (paragraphPage T (joined T) (spanRows T))) (all-paragraphs (T .note))
 
-pub pages : (T : Texts) (page₀ : List ℕ) → Pages T page₀ page₀ 0 (record { at = 0; code = 0; link = 0; size = 0 })
+pub pages : (T : Texts) (page₀ : List ℕ) → Pages T page₀ page₀ 0 (record { at = 0; close = 0; size = 0 })
 pages T page₀ = record {
   written = rw (all-pages T) leads;
-  cursors = record { code = record { passed = λ j r l e. absurd (omega arith) }; link = record { passed = λ j r l e. absurd (omega arith) } };
+  cursor = record { passed = λ j r l e. absurd (omega arith) };
 }
 
 module _ {T : Texts} {page₀ page : List ℕ} {at : ℕ} {p : Pass} (g : Pages T page₀ page at p) {x : Paragraph} (q : IsParagraph (T .note) at x) where
@@ -56,15 +55,13 @@ module _ {T : Texts} {page₀ page : List ℕ} {at : ℕ} {p : Pass} (g : Pages 
     unfolding flatMap
     one-more = rw (here .first) refl
 
-    pub starts : {u : List ℕ} {count : ℕ} → Spanned T u count → Starts T e (record { at = a; code = p .code; link = p .link; size = p .size })
-    starts d =
-        let c = cursors-later (g .cursors) (here .low) in
-        record {
-          ordered = here .ordered;
-          within = omega (arith, here .ends, here .inside);
-          cursors = record { code = c .code; link = c .link };
-          room = room (paragraphPage T (joined T) (spanRows T) (placedBetween (T .note) a e)) (pagesFrom T n) (g .written) one-more (omega (arith, page-most T (d .short) (d .sheet-short)));
-        }
+    pub starts : {u : List ℕ} {count : ℕ} → Spanned T u count → Starts T e (record { at = a; close = p .close; size = p .size })
+    starts d = record {
+      ordered = here .ordered;
+      within = omega (arith, here .ends, here .inside);
+      cursor = still-behind (g .cursor) (here .low);
+      room = room (paragraphPage T (joined T) (spanRows T) (placedBetween (T .note) a e)) (pagesFrom T n) (g .written) one-more (omega (arith, page-most T (d .short) (d .sheet-short)));
+    }
 
-    pub further : {page′ : List ℕ} {r : Pass} → Ends T e (record { at = a; code = p .code; link = p .link; size = p .size }) page r page′ → Pages T page₀ page′ n r
-    further y = record { written = onward (g .written) one-more (y .written); cursors = cursors-later (y .cursors) (here .ends) }
+    pub further : {page′ : List ℕ} {r : Pass} → Ends T e (record { at = a; close = p .close; size = p .size }) page r page′ → Pages T page₀ page′ n r
+    further y = record { written = onward (g .written) one-more (y .written); cursor = still-behind (y .cursor) (here .ends) }

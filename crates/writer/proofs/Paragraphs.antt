@@ -12,16 +12,12 @@ use Rattle.walk.specs.Reading.{placedBetween}
 use Rattle.walk.proofs.Steps.{cut}
 use Rattle.note.specs.Reading.{spanRows}
 use Rattle.html.specs.Tags.{paragraphOpen, paragraphClose}
-use Rattle.buffer.specs.Stored.{pageMost, Writes}
-use Rattle.buffer.specs.Stored.{Leads}
+use Rattle.buffer.specs.Stored.{pageMost, Writes, Leads}
 use Rattle.buffer.proofs.Writing.{leads, done, both}
 use Rattle.page.specs.Reading.{contentFrom, paragraphPage}
 use Rattle.writer.specs.declared.Pass.{Pass}
-use Rattle.writer.specs.Pass.{left, Cursors, Stands, Goes, Starts, Ends}
+use Rattle.writer.specs.Pass.{left, Cursor, Stands, Goes, Starts, Ends}
 use Rattle.cursor.proofs.Cursors.{still-behind}
-
-pub cursors-later : {T : Texts} {p : Pass} {i j : ℕ} → Cursors T p i → i ≤ j → Cursors T p j
-cursors-later c h = record { code = still-behind (c .code) h; link = still-behind (c .link) h }
 
 leads-on : {page₀ whole page page′ rest rest′ : List ℕ} {n k k′ : ℕ} → Leads page₀ n whole page k rest → Leads page k rest page′ k′ rest′ → Leads page₀ n whole page′ k′ rest′
 leads-on a b = record { size = b .size ∙ a .size; stored = b .stored ∙ a .stored; same = b .same ∙ a .same }
@@ -47,12 +43,12 @@ module _ (T : Texts) (e : ℕ) (w : e ≤ length (T .note)) where
 -- the loop started at w₀ and stands at w
 pub record Going (T : Texts) (e : ℕ) (w₀ : Pass) (page₀ page : List ℕ) (w : Pass) : Type 0 where
   pub written : Leads page₀ (w₀ .size) (left T e (w₀ .at)) page (w .size) (left T e (w .at))
-  pub here : Cursors T w (w .at)
-  pub there : Cursors T w e
+  pub here : Cursor T w (w .at)
+  pub there : Cursor T w e
 
 -- p, where n bytes are written
 abbrev at-size : Pass → ℕ → Pass
-at-size p n = record { at = p .at; code = p .code; link = p .link; size = n }
+at-size p n = record { at = p .at; close = p .close; size = n }
 
 module _ {T : Texts} {e : ℕ} {p : Pass} (q : Starts T e p) where
   abbrev whole : List ℕ
@@ -73,19 +69,17 @@ module _ {T : Texts} {e : ℕ} {p : Pass} (q : Starts T e p) where
 
   module _ {page page₀ : List ℕ} {n : ℕ} (x : Writes page (p .size) paragraphOpen page₀ n) where
     pub opened : Going T e (at-size p n) page₀ page₀ (at-size p n)
-    opened =
-        let c = cursors-later (q .cursors) (q .ordered) in
-        record { written = leads; here = record { code = q .cursors .code; link = q .cursors .link }; there = record { code = c .code; link = c .link } }
+    opened = record { written = leads; here = q .cursor; there = still-behind (q .cursor) (q .ordered) }
 
     module _ {mid : List ℕ} {w : Pass} (g : Going T e (at-size p n) page₀ mid w) where
       pub stands : w .at < e → Stands T e w
-      stands h = record { inside = h; within = q .within; cursors = g .here; room = omega (arith, g .written .size, x .size, parts) }
+      stands h = record { inside = h; within = q .within; cursor = g .here; room = omega (arith, g .written .size, x .size, parts) }
 
       pub goes-on : {mid′ : List ℕ} {r : Pass} → w .at < e → Goes T e w mid r mid′ → Going T e (at-size p n) page₀ mid′ r
       goes-on h y = record {
         written = leads-on (g .written) (y .written);
-        here = cursors-later (y .cursors) (omega (arith, y .onward));
-        there = cursors-later (y .cursors) (omega arith);
+        here = still-behind (y .cursor) (omega (arith, y .onward));
+        there = still-behind (y .cursor) (omega arith);
       }
 
       module _ (h : e ≤ w .at) where
@@ -98,5 +92,5 @@ module _ {T : Texts} {e : ℕ} {p : Pass} (q : Starts T e p) where
         pub closed : {after : List ℕ} {m : ℕ} → Writes mid (w .size) paragraphClose after m → Ends T e p page (at-size w m) after
         closed y = record {
           written = rw (paragraph-is T e (q .within) (p .at) (q .ordered)) (both (both x (done (g .written) none-left)) y);
-          cursors = record { code = g .there .code; link = g .there .link };
+          cursor = g .there;
         }

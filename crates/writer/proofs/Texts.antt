@@ -16,8 +16,7 @@ use Rattle.walk.proofs.Steps.{cut}
 use Rattle.note.specs.Reading.{spanRows}
 use Rattle.escaping.specs.Escaping.{escaped}
 use Rattle.escaping.specs.Reading.{backslash, asIs}
-use Rattle.buffer.specs.Stored.{pageMost, Writes}
-use Rattle.buffer.specs.Stored.{Leads}
+use Rattle.buffer.specs.Stored.{pageMost, Writes, Leads}
 use Rattle.buffer.proofs.Writing.{leads, onward, room}
 use Rattle.escaping.proofs.Undone.{byte-inside, no-escape}
 use Rattle.escaping.proofs.AsIs.{no-backslash, run-within, each-passes, escaped-part}
@@ -30,8 +29,7 @@ use Rattle.writer.proofs.Steps.{moved}
 pub record Runs (T : Texts) (e : ℕ) (p : Pass) (page₀ page : List ℕ) (w : Pass) : Type 0 where
   pub written : Leads page₀ (p .size) (left T e (p .at)) page (w .size) (left T e (w .at))
   pub low : p .at ≤ w .at
-  pub same-code : w .code ≡ p .code
-  pub same-link : w .link ≡ p .link
+  pub same-close : w .close ≡ p .close
 
 -- the same, whatever the sheet
 abbrev pub RunsText : List ℕ → ℕ → ℕ → Pass → List ℕ → List ℕ → Pass → Type 0
@@ -39,11 +37,11 @@ RunsText s e stop p page₀ page w = (sheet : List ℕ) → Plain (texts s sheet
 
 module _ {T : Texts} {e stop : ℕ} {p : Pass} (q : Plain T e (p .at) stop) {page₀ : List ℕ} where
   pub runs : Runs T e p page₀ page₀ p
-  runs = record { written = leads; low = omega arith; same-code = refl; same-link = refl }
+  runs = record { written = leads; low = omega arith; same-close = refl }
 
   module _ {page : List ℕ} {w : Pass} (g : Runs T e p page₀ page w) where
     pub run-ends : stop ≤ w .at → Passes T e p page₀ w page
-    run-ends h = record { written = g .written; onward = omega (arith, q .nonempty); same-code = g .same-code; same-link = g .same-link }
+    run-ends h = record { written = g .written; onward = omega (arith, q .nonempty); same-close = g .same-close }
 
     module _ (h : w .at < stop) where
       inside : w .at < length (take e (T .note))
@@ -85,8 +83,7 @@ module _ {T : Texts} {e stop : ℕ} {p : Pass} (q : Plain T e (p .at) stop) {pag
         run-runs x = record {
           written = onward (g .written) run-left x;
           low = omega (arith, g .low, run-to);
-          same-code = g .same-code;
-          same-link = g .same-link;
+          same-close = g .same-close;
         }
 
       -- a unit ends with the byte at place b
@@ -112,6 +109,5 @@ module _ {T : Texts} {e stop : ℕ} {p : Pass} (q : Plain T e (p .at) stop) {pag
         unit-runs x = record {
           written = onward (g .written) unit-left x;
           low = omega (arith, g .low, unit-inside .0);
-          same-code = g .same-code;
-          same-link = g .same-link;
+          same-close = g .same-close;
         }

@@ -1,30 +1,32 @@
-// The page of a note, written from the rows of both tables in one pass over its bytes. What does not fit into the page is counted and not
-// stored.
+// The page of a note, written from the rows of both tables in one pass over its bytes, with a table of the places where rows start. What does
+// not fit into the page is counted and not stored.
 ghost use mathlib.Core.Path.{_≡_};
-ghost use Prim.Native.Nat.{_≤_};
+ghost use Prim.Native.Nat.{_+_, _≤_};
 ghost use lib.ListN.{length};
+ghost use Rattle.scan.specs.Member.{In};
 ghost use Rattle.texts.specs.Texts.{texts};
 ghost use Rattle.row.specs.First.{namedText};
 ghost use Rattle.joined.specs.Reading.{joined, Listing};
 ghost use Rattle.span.specs.Row.{numbers};
-ghost use Rattle.buffer.specs.Stored.{Writes};
-ghost use Rattle.page.specs.Reading.{pageOf};
+ghost use Rattle.note.specs.Reading.{spanRows};
+ghost use Rattle.buffer.specs.Stored.{pageMost, Writes};
+ghost use Rattle.page.specs.Reading.{openTag, closeTag, pageOf};
 ghost use Rattle.cursor.specs.Spanned.{Spanned};
-ghost use Rattle.writer.specs.Pass.{Called, Room, Passes, TextAhead, PassesText, Stands, Goes, Starts, Ends};
+ghost use Rattle.cursor.specs.Starts.{Started};
+ghost use Rattle.writer.specs.Pass.{StartsHere, ClosesHere, Room, Passes, TextAhead, PassesText, Stands, Goes, Starts, Ends};
 use span::Span;
 use walk::Paragraph;
 
-// Where the pass stands: the place in the note, the row of the next code span and that of the next link, which may be open, and
-// the length of what is written by then.
+// Where the pass stands: the place in the note, the row of the next link or image whose text ends, and the length of what is written by
+// then.
 struct Pass {
     at: usize,
-    code: usize,
-    link: usize,
+    close: usize,
     size: usize,
 }
 
-// The text in which the destination and the title of a link lie, by its definition number: the one that the definition's row names, and
-// for 0 the note.
+// The text in which the destination and the title of a link or an image lie, by its definition number: the one that the definition's row
+// names, and for 0 the note.
 fn text_for<'a>(note: &'a [u8], sheet: &'a [u8], definitions: &[u32], number: usize) -> &'a [u8]
     requires { ⌜ Listing (texts (now note) (now sheet)) (now definitions) ⌝ }
     requires { ⌜ number ≤ length (joined (texts (now note) (now sheet))) ⌝ }
@@ -39,18 +41,67 @@ fn text_for<'a>(note: &'a [u8], sheet: &'a [u8], definitions: &[u32], number: us
     sheet
 }
 
-// What a row calls for where the pass stands: a code span, the opening tag of a link, or its closing tag in place of its tail.
-fn write_row<'a>(
+// What the row of a link or an image calls for at its start: the tag of the link, or that of the image up to its description.
+fn put_open<'a>(
+    note: &'a [u8],
+    sheet: &'a [u8],
+    definitions: &[u32],
+    row: Span,
+    page: &mut [u8],
+    n: usize,
+) -> usize
+    requires { ⌜ Listing (texts (now note) (now sheet)) (now definitions) ⌝ }
+    requires { ⌜ In (numbers (now note) row) (spanRows (texts (now note) (now sheet))) ⌝ }
+    requires { ⌜ n + length (openTag (texts (now note) (now sheet)) (joined (texts (now note) (now sheet))) (numbers (now note) row)) ≤ pageMost ⌝ }
+    ensures { λ r. ⌜ Writes (now (page .entry)) n (openTag (texts (now (note .entry)) (now (sheet .entry))) (joined (texts (now (note .entry)) (now (sheet .entry)))) (numbers (now (note .entry)) row)) (now (page .exit)) r ⌝ }
+{
+    let text = text_for(note, sheet, definitions, row.definition);
+    let from = row.destination.start;
+    let to = row.destination.end;
+    let title_from = row.title.start;
+    let title_to = row.title.end;
+    if row.kind < Span::INLINE_IMAGE {
+        return html::put_link_open(page, n, &text[from..to], &text[title_from..title_to]);
+    }
+    html::put_image_open(page, n, &text[from..to])
+}
+
+// What it calls for where its text ends: `</a>`, or the rest of the image's tag.
+fn put_close<'a>(
+    note: &'a [u8],
+    sheet: &'a [u8],
+    definitions: &[u32],
+    row: Span,
+    page: &mut [u8],
+    n: usize,
+) -> usize
+    requires { ⌜ Listing (texts (now note) (now sheet)) (now definitions) ⌝ }
+    requires { ⌜ In (numbers (now note) row) (spanRows (texts (now note) (now sheet))) ⌝ }
+    requires { ⌜ n + length (closeTag (texts (now note) (now sheet)) (joined (texts (now note) (now sheet))) (numbers (now note) row)) ≤ pageMost ⌝ }
+    ensures { λ r. ⌜ Writes (now (page .entry)) n (closeTag (texts (now (note .entry)) (now (sheet .entry))) (joined (texts (now (note .entry)) (now (sheet .entry)))) (numbers (now (note .entry)) row)) (now (page .exit)) r ⌝ }
+{
+    if row.kind < Span::INLINE_IMAGE {
+        return buffer::put(page, n, b"</a>");
+    }
+    let text = text_for(note, sheet, definitions, row.definition);
+    let from = row.title.start;
+    let to = row.title.end;
+    html::put_image_close(page, n, &text[from..to])
+}
+
+// What the row that starts where the pass stands calls for there, with tags or without: a code span, or the start of a link or an image.
+fn write_start<'a>(
     note: &'a [u8],
     sheet: &'a [u8],
     definitions: &[u32],
     end: usize,
     row: Span,
+    tags: bool,
     p: Pass,
     page: &mut [u8],
 ) -> Pass
     requires { ⌜ Listing (texts (now note) (now sheet)) (now definitions) ⌝ }
-    requires { ⌜ Called (texts (now note) (now sheet)) end (numbers (now note) row) (p .at) ⌝ }
+    requires { ⌜ StartsHere (texts (now note) (now sheet)) end (numbers (now note) row) tags (p .at) ⌝ }
     requires { ⌜ Room (texts (now note) (now sheet)) end p ⌝ }
     ensures { λ r. ⌜ Passes (texts (now (note .entry)) (now (sheet .entry))) end p (now (page .entry)) r (now (page .exit)) ⌝ }
 {
@@ -58,22 +109,38 @@ fn write_row<'a>(
     if row.kind == Span::CODE_SPAN {
         let from = row.text.start;
         let to = row.text.end;
-        w.size = code::put_code_span(page, p.size, &note[from..to]);
+        w.size = code::put_code_span(page, p.size, tags, &note[from..to]);
         w.at = row.whole.end;
         return w;
     }
-    if p.at == row.whole.start {
-        let text = text_for(note, sheet, definitions, row.definition);
-        let from = row.destination.start;
-        let to = row.destination.end;
-        let title_from = row.title.start;
-        let title_to = row.title.end;
-        w.size = html::put_link_open(page, p.size, &text[from..to], &text[title_from..title_to]);
-        w.at = p.at + 1;
-        return w;
+    w.at = row.text.start;
+    if tags {
+        w.size = put_open(note, sheet, definitions, row, page, p.size);
     }
-    w.size = buffer::put(page, p.size, b"</a>");
+    w
+}
+
+// What the link or image whose text ends where the pass stands calls for there, with tags or without, in place of its tail.
+fn write_close<'a>(
+    note: &'a [u8],
+    sheet: &'a [u8],
+    definitions: &[u32],
+    end: usize,
+    row: Span,
+    tags: bool,
+    p: Pass,
+    page: &mut [u8],
+) -> Pass
+    requires { ⌜ Listing (texts (now note) (now sheet)) (now definitions) ⌝ }
+    requires { ⌜ ClosesHere (texts (now note) (now sheet)) end (numbers (now note) row) tags (p .at) ⌝ }
+    requires { ⌜ Room (texts (now note) (now sheet)) end p ⌝ }
+    ensures { λ r. ⌜ Passes (texts (now (note .entry)) (now (sheet .entry))) end p (now (page .entry)) r (now (page .exit)) ⌝ }
+{
+    let mut w = p;
     w.at = row.whole.end;
+    if tags {
+        w.size = put_close(note, sheet, definitions, row, page, p.size);
+    }
     w
 }
 
@@ -107,29 +174,34 @@ fn write_next<'a>(
     definitions: &[u32],
     spans: &[u32],
     count: usize,
+    starts: &[u16],
     end: usize,
     p: Pass,
     page: &mut [u8],
 ) -> Pass
     requires { ⌜ Spanned (texts (now note) (now sheet)) (now spans) count ⌝ }
+    requires { ⌜ Started (spanRows (texts (now note) (now sheet))) (now starts) ⌝ }
     requires { ⌜ Listing (texts (now note) (now sheet)) (now definitions) ⌝ }
     requires { ⌜ Stands (texts (now note) (now sheet)) end p ⌝ }
     ensures { λ r. ⌜ Goes (texts (now (note .entry)) (now (sheet .entry))) end p (now (page .entry)) r (now (page .exit)) ⌝ }
 {
     let at = p.at;
+    let entry = starts[at];
+    if entry != 0 {
+        let row = span::span_at(spans, cursor::row_of(entry));
+        let tags = cursor::has_tags(entry);
+        return write_start(note, sheet, definitions, end, row, tags, p, page);
+    }
     let mut w = p;
-    w.code = cursor::next_row(spans, count, p.code, true, at);
-    w.link = cursor::next_row(spans, count, p.link, false, at);
-    let before_code = cursor::row_place(spans, count, w.code, at, end);
-    if before_code == at {
-        let row = span::span_at(spans, w.code);
-        return write_row(note, sheet, definitions, end, row, w, page);
+    w.close = cursor::next_closing(spans, count, p.close, at);
+    let close = cursor::closing_place(spans, count, w.close, end);
+    if close == at {
+        let row = span::span_at(spans, w.close);
+        let from = row.whole.start;
+        let tags = cursor::has_tags(starts[from]);
+        return write_close(note, sheet, definitions, end, row, tags, w, page);
     }
-    let stop = cursor::row_place(spans, count, w.link, at, before_code);
-    if stop == at {
-        let row = span::span_at(spans, w.link);
-        return write_row(note, sheet, definitions, end, row, w, page);
-    }
+    let stop = cursor::next_start(&starts[..close], at);
     write_text(note, end, stop, w, page)
 }
 
@@ -140,11 +212,13 @@ fn write_paragraph<'a>(
     definitions: &[u32],
     spans: &[u32],
     count: usize,
+    starts: &[u16],
     end: usize,
     p: Pass,
     page: &mut [u8],
 ) -> Pass
     requires { ⌜ Spanned (texts (now note) (now sheet)) (now spans) count ⌝ }
+    requires { ⌜ Started (spanRows (texts (now note) (now sheet))) (now starts) ⌝ }
     requires { ⌜ Listing (texts (now note) (now sheet)) (now definitions) ⌝ }
     requires { ⌜ Starts (texts (now note) (now sheet)) end p ⌝ }
     ensures { λ r. ⌜ Ends (texts (now (note .entry)) (now (sheet .entry))) end p (now (page .entry)) r (now (page .exit)) ⌝ }
@@ -152,31 +226,32 @@ fn write_paragraph<'a>(
     let mut w = p;
     w.size = buffer::put(page, p.size, b"<p>");
     while w.at < end {
-        w = write_next(note, sheet, definitions, spans, count, end, w, page);
+        w = write_next(note, sheet, definitions, spans, count, starts, end, w, page);
     }
     w.size = buffer::put(page, w.size, b"</p>\n");
     w
 }
 
-// The page of a note whose span rows are the first `count` of the one table, while the other holds the joined list: writes what fits, and
-// returns the whole length.
+// The page of a note whose span rows are the first `count` of the one table, while the other holds the joined list and `starts` tells where
+// those rows start: writes what fits, and returns the whole length.
 pub fn write_page<'a>(
     note: &'a [u8],
     sheet: &'a [u8],
     definitions: &[u32],
     spans: &[u32],
     count: usize,
+    starts: &[u16],
     page: &mut [u8],
 ) -> usize
     requires { ⌜ Spanned (texts (now note) (now sheet)) (now spans) count ⌝ }
+    requires { ⌜ Started (spanRows (texts (now note) (now sheet))) (now starts) ⌝ }
     requires { ⌜ Listing (texts (now note) (now sheet)) (now definitions) ⌝ }
     ensures { λ r. ⌜ Writes (now (page .entry)) 0 (pageOf (texts (now (note .entry)) (now (sheet .entry)))) (now (page .exit)) r ⌝ }
 {
     let mut next = 0;
     let mut p = Pass {
         at: 0,
-        code: 0,
-        link: 0,
+        close: 0,
         size: 0,
     };
     loop {
@@ -184,7 +259,7 @@ pub fn write_page<'a>(
             return p.size;
         };
         p.at = start;
-        p = write_paragraph(note, sheet, definitions, spans, count, end, p, page);
+        p = write_paragraph(note, sheet, definitions, spans, count, starts, end, p, page);
         next = after;
     }
 }

@@ -1,8 +1,8 @@
-//! Short notes by chance, without a sheet and with one, and for a release, the same in every run.
+//! Short notes by chance, without a sheet and with one, for a release, and of images, the same in every run.
 
 use super::Case;
 use crate::generate::chance::Chance;
-use crate::generate::repeats;
+use crate::generate::{images, repeats};
 
 const PARTS: [&str; 28] = [
     "[", "]", "(", ")", "<", ">", "`", "``", "\\", " ", "\n", "\n\n", ":", "\"", "'", "a", "b",
@@ -26,6 +26,7 @@ pub fn cases() -> Vec<Case> {
         let (note, sheet) = repeats::texts(chance);
         by_chance(note).beside(sheet).for_release()
     }));
+    cases.extend((0..300).map(|_| by_chance(images::note(chance))));
     cases
 }
 

@@ -10,7 +10,7 @@ pub fn cases() -> Vec<Case> {
 }
 
 /// Destinations and titles.
-const TARGETS: &[&str] = &[
+pub(super) const TARGETS: &[&str] = &[
     "<b<c>",
     "<b\\<c>",
     "<b\\>",
@@ -63,7 +63,7 @@ const TARGETS: &[&str] = &[
 ];
 
 /// What follows `[foo]`.
-const TAILS: &[&str] = &[
+pub(super) const TAILS: &[&str] = &[
     "[ ]",
     "[]",
     " []",

@@ -11,6 +11,8 @@ mod expected;
 pub mod folded_bytes;
 pub mod folded_texts;
 pub mod folding;
+mod image_limits;
+mod images;
 pub mod labels;
 mod lending;
 mod limits;
@@ -168,6 +170,8 @@ pub fn all() -> Vec<Case> {
         folding::cases(),
         folded_texts::cases(),
         folded_bytes::cases(),
+        images::cases(),
+        image_limits::cases(),
         chance::cases(),
     ]
     .into_iter()

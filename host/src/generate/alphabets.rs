@@ -12,6 +12,17 @@ pub struct Alphabet {
 /// Definitions that half of the notes start with.
 const DEFINITIONS: &[u8] = b"[a]: /1 \"t\"\n[b]: <2>\n[A b]: a(b)c 'u'\n\n";
 
+/// `![` as often as it fits.
+const IMAGE_OPENINGS: [u8; 256] = {
+    let mut openings = [b'['; 256];
+    let mut place = 0;
+    while place < openings.len() {
+        openings[place] = b'!';
+        place += 2;
+    }
+    openings
+};
+
 impl Alphabet {
     /// A note by chance.
     pub fn note(&self, chance: &mut Chance) -> Vec<u8> {
@@ -43,15 +54,40 @@ pub const ALPHABETS: &[Alphabet] = &[
         name: "references",
         pieces: &[
             b"[", b"]", b"[a]", b"[b]", b"[]", b"[A", b"b]", b" ", b"\n", b"\t", b"`", b"(", b")",
-            b"[c]", b"\\]", b"][",
+            b"[c]", b"\\]", b"][", b"!", b"![",
         ],
         most: 16,
+    },
+    Alphabet {
+        name: "images",
+        pieces: &[
+            b"![",
+            b"![",
+            b"[",
+            b"]",
+            b"](b)",
+            b"](c 't')",
+            b"]()",
+            b"![a]",
+            b"[a]",
+            b"[]",
+            b"!",
+            b"\\",
+            b"`",
+            b"\n",
+            b"&",
+            b"<",
+            b"\"",
+            b"x",
+            b" ",
+        ],
+        most: 20,
     },
     Alphabet {
         name: "inline tails",
         pieces: &[
             b"[a](", b"](", b"(", b")", b")", b"<", b">", b"\"", b"'", b" ", b"\n", b"\t", b"\\",
-            b"b", b"c", b"[", b"]", b"&", b"\x7f", b"\x01",
+            b"b", b"c", b"[", b"]", b"&", b"\x7f", b"\x01", b"!", b"![a](",
         ],
         most: 20,
     },
@@ -59,6 +95,7 @@ pub const ALPHABETS: &[Alphabet] = &[
         name: "code spans",
         pieces: &[
             b"`", b"`", b"``", b"```", b"\\", b" ", b"\n", b"a", b"[", b"]", b"](b)", b"\n\n",
+            b"!", b"![",
         ],
         most: 24,
     },
@@ -67,7 +104,7 @@ pub const ALPHABETS: &[Alphabet] = &[
         pieces: &[
             b"[", b"]", b"]:", b"[a]: ", b"[A b]:", b"[\\]]: ", b"/u", b"<v>", b"<>", b" \"t\"",
             b" 'u'", b" (w)", b"\"", b"'", b"(", b")", b"\n", b"\n", b"\n\n", b" ", b"   ", b"\t",
-            b"\\", b"a", b":",
+            b"\\", b"a", b":", b"!",
         ],
         most: 20,
     },
@@ -93,6 +130,7 @@ pub const ALPHABETS: &[Alphabet] = &[
             b"@",
             b"`",
             b"{",
+            b"!",
         ],
         most: 20,
     },
@@ -135,6 +173,7 @@ pub const ALPHABETS: &[Alphabet] = &[
             b"[Ss]",
             b"[\xd0\x96]",
             b"[\xd0\xb6]: w\n",
+            b"!",
         ],
         most: 16,
     },
@@ -159,6 +198,7 @@ pub const ALPHABETS: &[Alphabet] = &[
             b"b",
             b"\"",
             b"`",
+            b"!",
         ],
         most: 16,
     },
@@ -167,7 +207,7 @@ pub const ALPHABETS: &[Alphabet] = &[
         pieces: &[
             b"\n", b"\n", b"\n", b"\n\n", b" \n", b"\t", b"[", b"[", b"]", b"](c)", b"](\n)",
             b"[a]", b"[a\n]", b"[\nb]", b"[]", b"`", b"`", b"``", b"d", b"\n[e\n", b"\n[e\n",
-            b"]:\nf\n", b"]:\nf\n", b"'g\n'", b"\\",
+            b"]:\nf\n", b"]:\nf\n", b"'g\n'", b"\\", b"!", b"![",
         ],
         most: 24,
     },
@@ -200,6 +240,8 @@ pub const ALPHABETS: &[Alphabet] = &[
             b"Z",
             b"0",
             b"_",
+            b"!",
+            b"![a](",
         ],
         most: 24,
     },
@@ -208,6 +250,10 @@ pub const ALPHABETS: &[Alphabet] = &[
         pieces: &[
             &[b'['; 256],
             &[b'['; 256],
+            &IMAGE_OPENINGS,
+            b"![",
+            b"!",
+            b"![a](b)",
             &[b'['; 128],
             b"[",
             b"]",
@@ -247,6 +293,7 @@ pub const ALPHABETS: &[Alphabet] = &[
             b"<",
             b">",
             b"\"",
+            b"!",
         ],
         most: 16,
     },
@@ -276,6 +323,7 @@ pub const ALPHABETS: &[Alphabet] = &[
             b"\xff",
             b"\0",
             b"\r",
+            b"!",
         ],
         most: 8,
     },

@@ -1,7 +1,7 @@
 //! The notes of the benchmark: plausible notices, and notes that are hard to read quickly.
 
 use super::chance::Chance;
-use crate::second::LONGEST_NOTE;
+use crate::second::{LONGEST_NOTE, MOST_BRACKETS_OPEN};
 
 /// A note of the benchmark, with its name in the table of figures, the sheet beside it, and whether it is read for
 /// a release.
@@ -125,6 +125,9 @@ fn alone(chance: &mut Chance, most: usize) -> Vec<(&'static str, String)> {
         ("empty_tails", repeated("[](")),
         ("bracket_words", repeated("[a] ")),
         ("deep_text", deep_text(share(1_000), most)),
+        ("nested_images", nested_images(share(4))),
+        ("image_openings", image_openings(share(8))),
+        ("pictures", pictures(chance, share(16_000))),
     ]
 }
 
@@ -185,6 +188,11 @@ fn backticks(most: usize) -> String {
 
 /// A plausible notice of a few pages, up to a line past `length`: definitions, then prose with references, code spans and inline links.
 fn notice(chance: &mut Chance, length: usize) -> String {
+    plausible(chance, length, notice_word)
+}
+
+/// Definitions, then prose of such words, up to a line past `length`.
+fn plausible(chance: &mut Chance, length: usize, word: fn(&mut Chance) -> String) -> String {
     let mut note = String::new();
     for number in 0..NOTICE_DEFINITIONS {
         let drug = DRUGS[number % DRUGS.len()];
@@ -192,7 +200,7 @@ fn notice(chance: &mut Chance, length: usize) -> String {
     }
     note += "\n";
     while note.len() < length {
-        let line: Vec<String> = (0..14).map(|_| notice_word(chance)).collect();
+        let line: Vec<String> = (0..14).map(|_| word(chance)).collect();
         note += &line.join(" ");
         note += if chance.once_in(5) { "\n\n" } else { "\n" };
     }
@@ -212,6 +220,23 @@ fn notice_word(chance: &mut Chance) -> String {
     }
 }
 
+/// A notice of pump screens: of a hundred words, six are images, three images in links, two images with links and
+/// code spans in their descriptions, six references.
+fn pictures(chance: &mut Chance, length: usize) -> String {
+    plausible(chance, length, |chance| {
+        let number = chance.below(NOTICE_DEFINITIONS);
+        let label = format!("{} max {number}", DRUGS[number % DRUGS.len()]);
+        match chance.below(100) {
+            0..=2 => format!("![{label}]"),
+            3..=5 => format!("![screen {number}](/screens/{number}.png \"step {number}\")"),
+            6..=8 => format!("[![{label}][]](/large/{number}.html)"),
+            9..=10 => format!("![`{number} ml/h`, see [{label}]](/screens/{number}.png)"),
+            11..=16 => format!("[{label}]"),
+            _ => chance.one_of(WORDS).to_string(),
+        }
+    })
+}
+
 /// Words and spaces alone, one paragraph.
 fn prose(chance: &mut Chance, most: usize) -> String {
     let mut note = String::new();
@@ -227,6 +252,18 @@ fn prose(chance: &mut Chance, most: usize) -> String {
 fn nested(times: usize) -> String {
     let deep = "[".repeat(1_000) + "a" + &"]".repeat(1_000) + " ";
     deep.repeat(times)
+}
+
+/// Images inside each other, 1,000 deep, so many times.
+fn nested_images(times: usize) -> String {
+    let deep = "![".repeat(1_000) + "a" + &"](/p1)".repeat(1_000) + " ";
+    deep.repeat(times)
+}
+
+/// As many image openings as brackets may be open, in so many paragraphs.
+fn image_openings(paragraphs: usize) -> String {
+    let paragraph = "![a".repeat(MOST_BRACKETS_OPEN) + "\n\n";
+    paragraph.repeat(paragraphs)
 }
 
 /// A long text between brackets so deep.

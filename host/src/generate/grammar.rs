@@ -1,4 +1,4 @@
-//! Notes from a grammar: definitions, references to them, inline links, code spans, escapes, nested
+//! Notes from a grammar: definitions, references to them, inline links, images, code spans, escapes, nested
 //! brackets, blank lines; now and then with a byte spoilt.
 
 use super::chance::Chance;
@@ -71,13 +71,15 @@ const WORDS: &[&str] = &[
     "a", "the pump", "é", "😀", "b\n", "x  y", "&", "<i>", "\"", "*e*", "\n", "\nc ", "d\ne\n",
 ];
 const ESCAPES: &[&str] = &[
-    "\\[", "\\]", "\\`", "\\\\", "\\!", "\\a", "\\&", "\\", "\\<",
+    "\\[", "\\]", "\\`", "\\\\", "\\!", "\\a", "\\&", "\\", "\\<", "\\![", "!\\[",
 ];
 const STRAY: &[&str] = &[
-    "[", "]", "(", ")", "`", "``", "!", ":", "[]", "](", "]:", "<", ">",
+    "[", "]", "(", ")", "`", "``", "!", ":", "[]", "](", "]:", "<", ">", "![", "!![",
 ];
+/// What stands before a bracket that opens.
+const BEFORE: &[&str] = &["", "", "", "", "!", "!", "!", "!!", "\\!", "! "];
 const CODE: &[&str] = &[
-    "c", " c ", " ", "  ", "\n", "`", "``", "]", "[a]", "<&>", "\\", "a\nb",
+    "c", " c ", " ", "  ", "\n", "`", "``", "]", "[a]", "<&>", "\\", "a\nb", "![a](b)",
 ];
 const SPOILING: &[u8] = b"[]()<>`\\\"' \n\t:!aA&\x00\x0d\x80\xff";
 
@@ -146,11 +148,14 @@ pub fn varied(chance: &mut Chance, text: &str) -> String {
     }
 }
 
-/// A paragraph; one in sixty has brackets near the limit before it.
+/// A paragraph; one in sixty has brackets near the limit before it, of one sort or of both.
 fn paragraph(chance: &mut Chance) -> String {
     let mut text = String::new();
     if chance.once_in(60) {
-        text += &"[".repeat(chance.between(MOST_BRACKETS_OPEN - 2, MOST_BRACKETS_OPEN + 3));
+        let count = chance.between(MOST_BRACKETS_OPEN - 2, MOST_BRACKETS_OPEN + 3);
+        let images = chance.one_of(&[0, 0, 1, 512, count]);
+        text += &"![".repeat(images);
+        text += &"[".repeat(count - images);
     }
     let depth = chance.below(4);
     text + &content(chance, depth)
@@ -171,6 +176,13 @@ fn piece(chance: &mut Chance, depth: usize) -> String {
         1 => chance.one_of(ESCAPES).to_string(),
         2 => chance.one_of(STRAY).to_string(),
         3 => code_span(chance),
+        bracketed => chance.one_of(BEFORE).to_string() + &pair(chance, depth, bracketed),
+    }
+}
+
+/// A pair of brackets with a tail of one kind or none.
+fn pair(chance: &mut Chance, depth: usize, kind: usize) -> String {
+    match kind {
         4 => format!("[{}]", label(chance)),
         5 => format!("[{}][]", label(chance)),
         6 | 7 => format!("[{}]{}", content(chance, depth - 1), inline_tail(chance)),

@@ -1,4 +1,4 @@
-//! A paragraph's marking: its pieces, pairs and links.
+//! A paragraph's marking: its pieces, pairs, links and images.
 
 use super::definitions::Definition;
 use super::source::Source;
@@ -18,14 +18,21 @@ pub(super) enum PieceKind {
     Escape,
     /// A code span, with the length of each of its two backtick strings.
     Code(usize),
-    /// "`[` opens".
-    Opening,
+    /// "`[` opens", and "`![` opens, one piece of two bytes" (document 02, request 5).
+    Opening(Sort),
     /// "`]` closes".
     Closing,
-    /// "After the `]` of a link comes its tail, one piece, possibly empty".
+    /// "After the `]` of a link comes its tail, one piece, possibly empty", and after that of an image.
     Tail,
     /// "any other byte is plain" (here: any other character), and backticks that close nowhere.
     Plain,
+}
+
+/// What a pair can be, by its opening piece: of `[` a link, of `![` an image.
+#[derive(Clone, Copy, Debug, PartialEq, Eq)]
+pub(super) enum Sort {
+    Link,
+    Image,
 }
 
 /// A piece; its ends are indexes in the paragraph's characters.
@@ -36,6 +43,16 @@ pub(super) struct Piece {
     pub to: usize,
 }
 
+impl Piece {
+    /// Whether it opens, and what the pair can be.
+    pub fn opens(self) -> Option<Sort> {
+        match self.kind {
+            PieceKind::Opening(sort) => Some(sort),
+            _ => None,
+        }
+    }
+}
+
 /// Two brackets that belong together, told by the indexes of their pieces.
 #[derive(Clone, Copy, Debug)]
 pub(super) struct Pair {
@@ -43,20 +60,28 @@ pub(super) struct Pair {
     pub closing: usize,
 }
 
-/// A pair that is a link, with its tail.
+impl Pair {
+    /// Whether another pair lies between its two brackets, at any depth.
+    pub fn holds(self, other: Pair) -> bool {
+        self.opening < other.opening && other.closing < self.closing
+    }
+}
+
+/// A pair that is a link or an image, with its tail.
 #[derive(Debug)]
-pub(super) struct Link<'t> {
+pub(super) struct Tailed<'t> {
     pub pair: Pair,
     pub tail: Tail<'t>,
 }
 
-/// A paragraph with its pieces, pairs and links, and the text that it stands in.
+/// A paragraph with its pieces, pairs, links and images, and the text that it stands in.
 pub(super) struct Marking<'t> {
     pub source: &'t Source<'t>,
     pub text: &'t Text,
     pub pieces: Vec<Piece>,
     pub pairs: Vec<Pair>,
-    pub links: Vec<Link<'t>>,
+    pub links: Vec<Tailed<'t>>,
+    pub images: Vec<Tailed<'t>>,
 }
 
 /// The markings of a text's paragraphs.
@@ -74,7 +99,7 @@ pub(super) fn mark_each<'t>(
 }
 
 /// Marks a paragraph: piece after piece from its start, for "The paragraph is tiled by the pieces",
-/// and at each closing piece its pair and its link, if it makes them.
+/// and at each closing piece its pair and its link or image, if it makes them.
 fn mark<'t>(tails: Tails<'t, 't>) -> Marking<'t> {
     let mut marking = Marking {
         source: tails.source,
@@ -82,6 +107,7 @@ fn mark<'t>(tails: Tails<'t, 't>) -> Marking<'t> {
         pieces: Vec::new(),
         pairs: Vec::new(),
         links: Vec::new(),
+        images: Vec::new(),
     };
     let mut at = 0;
     while at < tails.text.characters.len() {
@@ -95,19 +121,24 @@ fn mark<'t>(tails: Tails<'t, 't>) -> Marking<'t> {
     marking
 }
 
-/// The piece that starts at an index, where no tail does.
+/// The piece that starts at an index, where no tail does. "`\![` is an escape and an ordinary opening"
+/// (document 02, request 5): the escape comes first.
 fn piece_at(text: &Text, from: usize) -> Piece {
+    if let Some(misread) = text.reader.misread_opening(text, from) {
+        return misread;
+    }
     if let Some(to) = text.escape_end(from, Within::Paragraph) {
         let kind = PieceKind::Escape;
         return Piece { kind, from, to };
     }
-    let kind = match text.get(from) {
+    let (kind, length) = match text.get(from) {
         Some('`') => return backtick_piece(text, from),
-        Some('[') => PieceKind::Opening,
-        Some(']') => PieceKind::Closing,
-        _ => PieceKind::Plain,
+        Some('!') if text.get(from + 1) == Some('[') => (PieceKind::Opening(Sort::Image), 2),
+        Some('[') => (PieceKind::Opening(Sort::Link), 1),
+        Some(']') => (PieceKind::Closing, 1),
+        _ => (PieceKind::Plain, 1),
     };
-    let to = from + 1;
+    let to = from + length;
     Piece { kind, from, to }
 }
 
@@ -150,39 +181,23 @@ fn backtick_run_end(text: &Text, from: usize) -> usize {
     from + run.count()
 }
 
-/// "A closing piece pairs with the last opening piece before it such that between the two stand
-/// equally many opening and closing pieces, if there is one; nothing else is a pair."
-fn partner(pieces: &[Piece], closing: usize) -> Option<usize> {
-    let mut opening_between = 0_usize;
-    let mut closing_between = 0_usize;
-    for candidate in (0..closing).rev() {
-        match pieces[candidate].kind {
-            PieceKind::Opening if opening_between == closing_between => return Some(candidate),
-            PieceKind::Opening => opening_between += 1,
-            PieceKind::Closing => closing_between += 1,
-            _ => {}
-        }
-    }
-    None
-}
-
 impl<'t> Marking<'t> {
     fn misreads(&self, wrong: Wrong) -> bool {
         self.text.reader.misreads(wrong)
     }
 
-    /// Pairs the last piece, which closes, and makes the pair a link if it is one: "A pair is a link
-    /// exactly when no link lies between its two brackets and it has a tail." Answers where the
-    /// link's tail ends.
+    /// Pairs the last piece, which closes, and makes the pair what it is. Answers where its tail ends.
     fn close(&mut self, tails: Tails<'t, '_>) -> Option<usize> {
         let closing = self.pieces.len() - 1;
-        let opening = partner(&self.pieces, closing)?;
+        let (opening, sort) = self.partner(closing)?;
+        let sort = self.text.reader.misread_sort(sort);
         let pair = Pair { opening, closing };
-        let tail = if self.has_link_between(pair) {
+        let tail = if self.is_barred(pair, sort) {
             None
         } else {
             tails.after(self.pieces[opening].to, self.pieces[closing].from)
         };
+        let tail = tail.filter(|tail| !self.text.reader.misreads_tail(sort, tail.kind));
         if tail.is_none() && self.misreads(Wrong::NoLinkNoPair) {
             self.pieces[closing].kind = PieceKind::Plain;
             return None;
@@ -195,52 +210,75 @@ impl<'t> Marking<'t> {
             from,
             to,
         });
-        if self.misreads(Wrong::OuterLinkKept) {
-            self.links.retain(|link| link.pair.opening < opening);
+        if self.misreads(Wrong::OuterLinkKept) && sort == Sort::Link {
+            self.links.retain(|link| !pair.holds(link.pair));
         }
-        self.links.push(Link { pair, tail });
+        let list = match sort {
+            Sort::Link => &mut self.links,
+            Sort::Image => &mut self.images,
+        };
+        list.push(Tailed { pair, tail });
         Some(to)
     }
 
-    /// Whether a link lies between the two brackets of a pair.
-    fn has_link_between(&self, pair: Pair) -> bool {
-        let looked_for = !self.misreads(Wrong::LinksNest) && !self.misreads(Wrong::OuterLinkKept);
-        looked_for
-            && self
-                .links
-                .iter()
-                .any(|link| pair.opening < link.pair.opening && link.pair.closing < pair.closing)
+    /// "A closing piece pairs with the last opening piece before it such that between the two stand
+    /// equally many opening and closing pieces, if there is one; nothing else is a pair." "Both sorts of
+    /// opening count for pairing" (document 02, request 5).
+    fn partner(&self, closing: usize) -> Option<(usize, Sort)> {
+        let mut opening_between = 0_usize;
+        let mut closing_between = 0_usize;
+        for (candidate, piece) in self.pieces[..closing].iter().enumerate().rev() {
+            match piece.opens() {
+                Some(Sort::Image) if self.misreads(Wrong::ImageOpeningsUnpaired) => {}
+                Some(sort) if opening_between == closing_between => return Some((candidate, sort)),
+                Some(_) => opening_between += 1,
+                None => closing_between += usize::from(piece.kind == PieceKind::Closing),
+            }
+        }
+        None
+    }
+
+    /// Whether a pair is not what its tail would make it. "A pair is a link exactly when .. it has a tail", and
+    /// between its two brackets stands "no link at any depth, through images too"; an image is one "exactly when
+    /// it has a tail, whatever lies between" (document 02, request 5).
+    fn is_barred(&self, pair: Pair, sort: Sort) -> bool {
+        if let Some(misread) = self.text.reader.misread_barred(self, pair, sort) {
+            return misread;
+        }
+        sort == Sort::Link && self.links.iter().any(|link| pair.holds(link.pair))
     }
 
     /// "place of the first bracket too many": "Brackets open at a point: opening pieces before it
-    /// less those paired by then. Each paragraph starts afresh", with none open before it.
-    pub fn first_bracket_too_many(&self, mut open: isize) -> Option<usize> {
+    /// less those paired by then. Each paragraph starts afresh", with none open before it. "Both sorts of
+    /// opening count .. for refusal 4 (its place is the `[`)" (document 02, request 5).
+    pub fn first_bracket_too_many(&self, open: isize) -> Option<usize> {
+        let reader = self.text.reader;
+        let counts = reader.sorts_counted().into_iter();
+        let first = counts.filter_map(|counted| self.too_many_of(counted, open));
+        let piece = first.min_by_key(|piece| piece.from)?;
+        let bracket = self.text.place(piece.to - 1);
+        Some(reader.misread_deep_place(self.text, *piece, bracket))
+    }
+
+    /// The first piece that opens one too many, where an opening piece of each sort counts so many.
+    fn too_many_of(&self, counted: fn(Sort) -> isize, mut open: isize) -> Option<&Piece> {
         let reader = self.text.reader;
         let most = reader.limit(
             MOST_BRACKETS_OPEN,
             Wrong::OneBracketFewer,
             Wrong::OneBracketMore,
         );
+        let opened_by = |piece: &Piece| piece.opens().map_or(0, counted);
         let mut pairs = self.pairs.iter().peekable();
         for (index, piece) in self.pieces.iter().enumerate() {
-            open += isize::from(piece.kind == PieceKind::Opening);
-            let closes = pairs.next_if(|pair| pair.closing == index).is_some();
-            open -= self.closed_by(*piece, closes, open);
+            open += opened_by(piece);
+            let closed = pairs.next_if(|pair| pair.closing == index);
+            let closed = closed.map_or(0, |pair| opened_by(&self.pieces[pair.opening]));
+            open -= reader.misread_closed(self, index, open, closed);
             if open > most as isize {
-                let place = self.text.place(piece.from);
-                return Some(reader.misread_deep_place(self.text, place));
+                return Some(piece);
             }
         }
         None
-    }
-
-    /// How many of the brackets open a piece closes: one where it is the second of a pair.
-    fn closed_by(&self, piece: Piece, closes_pair: bool, open: isize) -> isize {
-        match piece.kind {
-            PieceKind::Closing if self.misreads(Wrong::PairedStayOpen) => 0,
-            PieceKind::Closing if self.misreads(Wrong::UnpairedCloses) => 1,
-            PieceKind::Tail if self.misreads(Wrong::LinkClosesAll) => open,
-            _ => isize::from(closes_pair),
-        }
     }
 }

@@ -6,7 +6,7 @@
 //! by building their compared forms, for which each character is looked for among the rows of Unicode's
 //! file, the definitions of note and sheet become one list, each row's line is found among the places of its
 //! text's LFs, conflicting definitions are looked for among all pairs of the list, and the page is built as a
-//! string. Nothing is shared with the proved reader. Quoted sentences are document 01's where document 02 is
+//! string, each part of it with tags and without. Nothing is shared with the proved reader. Quoted sentences are document 01's where document 02 is
 //! not named.
 //!
 //! The rooms: `text` (good characters, parts, the descent), `source` (the two texts), `folding`, `labels`,

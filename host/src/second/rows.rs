@@ -2,7 +2,7 @@
 
 use super::alone;
 use super::definitions::Definition;
-use super::marking::{Link, Marking, Piece, PieceKind};
+use super::marking::{Marking, Piece, PieceKind, Tailed};
 use super::source::Source;
 use super::text::Part;
 use super::{Reader, Wrong};
@@ -18,7 +18,7 @@ pub type DefinitionRow = [u32; DEFINITION_ROW_WIDTH];
 /// start and end, title start and end", and the line "of the span's start".
 pub type SpanRow = [u32; SPAN_ROW_WIDTH];
 
-/// "The five kinds of row have fixed numbers".
+/// "The five kinds of row have fixed numbers", and so have those of images (document 02, request 5).
 pub mod kind {
     /// "1 code span".
     pub const CODE_SPAN: u32 = 1;
@@ -30,9 +30,27 @@ pub mod kind {
     pub const COLLAPSED: u32 = 4;
     /// "5 shortcut".
     pub const SHORTCUT: u32 = 5;
+    /// "kinds 6 inline".
+    pub const INLINE_IMAGE: u32 = 6;
+    /// "7 full".
+    pub const FULL_IMAGE: u32 = 7;
+    /// "8 collapsed".
+    pub const COLLAPSED_IMAGE: u32 = 8;
+    /// "9 shortcut".
+    pub const SHORTCUT_IMAGE: u32 = 9;
+
+    /// The kind of an image that has the tail of such a link.
+    pub(in super::super) fn of_image(link: u32) -> u32 {
+        match link {
+            INLINE => INLINE_IMAGE,
+            FULL => FULL_IMAGE,
+            COLLAPSED => COLLAPSED_IMAGE,
+            _ => SHORTCUT_IMAGE,
+        }
+    }
 }
 
-/// Where a link leads: its destination and title, each a part of the source without its delimiters,
+/// Where a link leads or an image lies: its destination and title, each a part of the source without its delimiters,
 /// and the number of the definition that names them, 0 if none does.
 #[derive(Clone, Copy, Debug)]
 pub(super) struct Target<'t> {
@@ -109,15 +127,15 @@ impl Marking<'_> {
     /// The span rows of the paragraph: "Rows stand in increasing order of end."
     pub fn span_rows(&self) -> Vec<SpanRow> {
         let reader = self.text.reader;
-        let has_row = |piece: &&Piece| {
-            !reader.misreads(Wrong::CodeInLinkLeftOut) || !self.stands_in_link(**piece)
-        };
-        let code_spans = self.pieces.iter().filter(has_row);
-        let code_spans = code_spans.filter_map(|piece| self.code_row(*piece));
-        let links = self.links.iter().map(|link| self.link_row(link));
-        let mut rows: Vec<SpanRow> = code_spans.chain(links).collect();
+        let code_spans = self.pieces.iter().filter_map(|piece| self.code_row(*piece));
+        let links = self.links.iter();
+        let links = links.map(|link| self.tailed_row(link.tail.kind, link));
+        let images = self.images.iter();
+        let images = images.map(|image| self.tailed_row(kind::of_image(image.tail.kind), image));
+        let mut rows: Vec<SpanRow> = code_spans.chain(links).chain(images).collect();
+        rows.retain(|row| !reader.misreads_as_no_row(row, self));
         if !reader.misreads(Wrong::RowsByKind) {
-            rows.sort_by_key(|row| row[usize::from(!reader.misreads(Wrong::RowsByStart)) + 1]);
+            rows.sort_by_key(|row| reader.misread_order_of(row));
         }
         rows.into_iter()
             .map(|row| reader.misread_span_line(row, self))
@@ -125,12 +143,14 @@ impl Marking<'_> {
             .collect()
     }
 
-    /// Whether a piece stands between the two brackets of a link.
-    fn stands_in_link(&self, piece: Piece) -> bool {
-        self.links.iter().any(|link| {
-            let opening = self.pieces[link.pair.opening];
-            let closing = self.pieces[link.pair.closing];
-            opening.to <= piece.from && piece.to <= closing.from
+    /// Whether a span stands between the two brackets of one of these.
+    pub fn stands_in(&self, row: &SpanRow, list: &[Tailed]) -> bool {
+        let [_, start, end, ..] = row.map(|number| number as usize);
+        list.iter().any(|around| {
+            let opening = self.pieces[around.pair.opening];
+            let closing = self.pieces[around.pair.closing];
+            let inside = self.text.part(opening.to, closing.from);
+            inside.start <= start && end <= inside.end
         })
     }
 
@@ -146,13 +166,14 @@ impl Marking<'_> {
     }
 
     /// "A span runs from its opening bracket or backtick to the end of its tail or closing
-    /// backticks", the text "for a link between its two brackets".
-    fn link_row(&self, link: &Link) -> SpanRow {
-        let opening = self.pieces[link.pair.opening];
-        let closing = self.pieces[link.pair.closing];
-        let whole = self.text.part(opening.from, link.tail.to);
+    /// backticks", the text "for a link between its two brackets". "An image's span starts at its `!`; the rest
+    /// of its row is made as a link's" (document 02, request 5).
+    fn tailed_row(&self, kind: u32, span: &Tailed) -> SpanRow {
+        let opening = self.pieces[span.pair.opening];
+        let closing = self.pieces[span.pair.closing];
+        let whole = self.text.part(opening.from, span.tail.to);
         let inside = self.text.part(opening.to, closing.from);
-        self.span_row(link.tail.kind, whole, inside, link.tail.target)
+        self.span_row(kind, whole, inside, span.tail.target)
     }
 
     fn span_row(&self, kind: u32, whole: Part, text: Part, target: Target) -> SpanRow {

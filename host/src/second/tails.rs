@@ -1,4 +1,4 @@
-//! The tail of a pair of brackets: what makes it a link.
+//! The tail of a pair of brackets: what makes it a link or an image.
 
 use super::definitions::Definition;
 use super::rows::{kind, Target};
@@ -7,8 +7,8 @@ use super::text::{Descent, Part, Text};
 use super::wrong::{Gap, Purpose};
 use super::Wrong;
 
-/// A tail as read: the kind of link it makes, where it ends in the paragraph's characters, and
-/// where the link leads.
+/// A tail as read: the kind of link that has it, where it ends in the paragraph's characters, and
+/// where the link leads. "Tail rules are the same" for images (document 02, request 5).
 #[derive(Debug)]
 pub(super) struct Tail<'t> {
     pub kind: u32,

@@ -4,8 +4,10 @@
 const GUARDS: usize = 16;
 
 /// What stands around a text, so many bytes as there are guards.
-const BEFORE_TEXT: &[u8; GUARDS] = b"[a]: b\n\n[x](y)[[";
+const BEFORE_TEXT: &[u8; GUARDS] = b"[a]: b\n\n[x](y)[!";
 const AFTER_TEXT: &[u8; GUARDS] = b"](y \"t\")]`: /u\n\n";
+/// After a text that ends with `!`.
+const AFTER_BANG: &[u8; GUARDS] = b"[y](z \"t\")`: /u\n";
 
 /// A lent part in the middle of a larger vector.
 pub struct Lent<T> {
@@ -60,7 +62,12 @@ impl<T: Copy + PartialEq + std::fmt::Debug> Lent<T> {
 impl Lent<u8> {
     /// Bytes to be read, between bytes that would change what they mean.
     pub fn bytes(bytes: &[u8]) -> Lent<u8> {
-        Lent::around([BEFORE_TEXT, bytes, AFTER_TEXT].concat())
+        let after = if bytes.ends_with(b"!") {
+            AFTER_BANG
+        } else {
+            AFTER_TEXT
+        };
+        Lent::around([BEFORE_TEXT, bytes, after].concat())
     }
 }
 

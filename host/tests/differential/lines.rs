@@ -7,12 +7,13 @@ use crate::random::every_note;
 use crate::trial::Need;
 use host::second::{DEFINITION_ROW_WIDTH, LONGEST_NOTE, MOST_BRACKETS_OPEN, SPAN_ROW_WIDTH};
 
-/// Links with code spans in their texts, references, code, brackets that stay open or close nothing.
-const PARAGRAPHS: [&str; 4] = [
+/// Links with code spans in their texts, references, code, images, brackets that stay open or close nothing.
+const PARAGRAPHS: [&str; 5] = [
     "x [\n[a\n`b\nc` d](e\n't\nu') [\nl\n]\n`f` [g][l\n]\n",
     "``\n`` [a\n[`b`\n](c)\n] `d\n` ]\n[e](\n)\n",
     "[[l][]\n[\n[l\n](\nf\n)\n[l\n][]]](g)\n",
     "\\\n[a\\\n](\\\n) `b\\\n`\n[l]\n",
+    "![a\n![b\n`c\n`](d\n)\n](e 'f\n') [![\nl\n]][l\n]\n!\n![\n[g](h)\n",
 ];
 const DEFINITIONS: [&str; 3] = ["", "[l\n]:\n<m>\n(n\no)\n[L]: p\n", "[\nl]: q\n\n[r]:\ns\n"];
 const BLANK_LINES: [&str; 4] = ["\n", "\n\n", " \n\t\n", "\n \t \n\n"];
@@ -35,7 +36,7 @@ fn notes() -> Vec<String> {
 #[test]
 fn over_several_paragraphs() {
     let notes = notes();
-    assert_eq!(notes.len(), 60);
+    assert_eq!(notes.len(), 72);
     for note in notes {
         compare_at_every_size(Texts::alone(note.as_bytes()));
     }
@@ -73,17 +74,27 @@ fn every_number_of_rows() {
 #[test]
 fn every_short_note() {
     every_note(b"[a]: b\n\n", b"[]a`\n", 6);
+    every_note(b"[a]: b\n\n", b"![]a\n", 6);
     every_note(b"", b"[]:a\n", 6);
     every_note(b"[a](", b"b'\n)", 6);
 }
 
-/// An opening bracket to a line, closed on one line or on as many; the inmost, a middle or the outmost pair is a
-/// link.
 #[test]
 fn brackets_over_lines() {
+    brackets_to_a_line("[\n");
+}
+
+#[test]
+fn image_openings_over_lines() {
+    brackets_to_a_line("![\n");
+}
+
+/// An opening bracket to a line, closed on one line or on as many; the inmost, a middle or the outmost pair has a
+/// tail.
+fn brackets_to_a_line(line: &str) {
     let most = MOST_BRACKETS_OPEN;
     for count in [1, 2, 3, 31, 32, 33, 255, 256, 257, most - 1, most, most + 1] {
-        let open = "[\n".repeat(count);
+        let open = line.repeat(count);
         for (inner, outer) in [
             (0, count - 1),
             (count / 2, count - 1 - count / 2),
@@ -103,9 +114,11 @@ fn many_lines() {
     for lines in [
         126, 127, 128, 254, 255, 256, 257, 4_095, 4_096, 16_384, 32_700,
     ] {
-        for piece in ["\n", "\n\n", " \n", "a\n", "`\n`\n", "[a\n", "[a]: b\n"] {
+        for piece in [
+            "\n", "\n\n", " \n", "a\n", "`\n`\n", "[a\n", "![a\n", "[a]: b\n",
+        ] {
             let pieces = lines.min((LONGEST_NOTE - 60) / piece.len());
-            let end = "[c\n`d`](e) `f`\n\n[g\n]:\nh\n\n[g]";
+            let end = "[c\n`d`](e) `f`\n\n[g\n]:\nh\n\n[g] ![\ng]";
             compare_long_note(format!("{}{end}", piece.repeat(pieces)).as_bytes());
         }
     }

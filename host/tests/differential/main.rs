@@ -4,7 +4,7 @@
 //!
 //! Random notes are the same in every run. Two environment variables change that:
 //! - `NOTICE_DIFFERENTIAL_NOTES=N`: so many random notes alone (600,000 if not given), as many beside
-//!   random sheets, a third as many of repeats, and as many pairs of labels;
+//!   random sheets, a third as many of repeats, half as many of images, and as many pairs of labels;
 //! - `NOTICE_DIFFERENTIAL_SEED=S`: another seed (1 if not given).
 //!
 //! A longer run: `NOTICE_DIFFERENTIAL_NOTES=20000000 NOTICE_DIFFERENTIAL_SEED=2 cargo test
@@ -14,6 +14,7 @@
 mod bad;
 mod compare;
 mod folding;
+mod images;
 mod labels;
 mod lent;
 mod lines;

@@ -98,7 +98,7 @@ pub fn compare_at_every_size(texts: Texts) -> [CameUp; 2] {
 fn examples_at_every_size() {
     let mut examples = examples();
     examples.retain(Example::is_in_scope);
-    assert_eq!(examples.len(), 229 + 5);
+    assert_eq!(examples.len(), 229 + 5 + 28);
     let mut refusals = [[0; 10]; 2];
     for example in examples {
         let came_up = compare_at_every_size(Texts::alone(example.note.as_bytes()));
@@ -190,6 +190,11 @@ fn longest_notes() {
         "&\"",
         "\n\na",
         "[a](b 'c')",
+        "![a](b 'c')",
+        "[![a](b)](c)",
+        "![]",
+        "!",
+        "!\\[",
         "é",
         "😀",
     ];

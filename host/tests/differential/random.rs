@@ -1,11 +1,12 @@
-//! Random notes, alone and beside random sheets, some of many repeats, and every short note over a few marks.
+//! Random notes, alone and beside random sheets, some of many repeats and some of images inside each other, and
+//! every short note over a few marks.
 
 use crate::compare::Texts;
 use crate::shrink::shrunk;
 use crate::trial::{self, Tally};
 use host::generate::alphabets::ALPHABETS;
 use host::generate::chance::Chance;
-use host::generate::{grammar, repeats, sheets};
+use host::generate::{grammar, images, repeats, sheets};
 
 /// How many random notes there are alone, and how many beside a sheet, and the seed, if the environment names
 /// no other.
@@ -144,6 +145,30 @@ fn notes_of_repeats() {
     tally.assert_stopped(notes as usize / 40);
 }
 
+#[test]
+fn notes_of_images() {
+    let notes = notes() / 3;
+    let mut tally = Tally::default();
+    run("images", notes, &mut tally, |chance| {
+        (images::note(chance), Vec::new())
+    });
+    run("images beside sheets", notes / 2, &mut tally, |chance| {
+        sheets::beside(images::note, chance)
+    });
+    tally.assert_images(notes as usize / 10);
+}
+
+/// Brackets of both sorts up to the limit: each takes the second reader long.
+#[test]
+fn notes_of_deep_images() {
+    let notes = notes() / 300;
+    let mut tally = Tally::default();
+    run("deep images", notes, &mut tally, |chance| {
+        (images::deep(chance), Vec::new())
+    });
+    tally.assert_deep(notes as usize / 20);
+}
+
 /// Every text of up to `most` bytes of the marks, behind `start`, with its index.
 pub fn every_text(
     start: &'static [u8],
@@ -176,8 +201,8 @@ pub fn every_note(start: &'static [u8], marks: &'static [u8], most: u32) {
 
 #[test]
 fn every_short_paragraph() {
-    every_note(b"[a]: b\n\n", b"[]()a`\\", 5);
-    every_note(b"[a]", b"[]()<>a\" \n\\", 4);
+    every_note(b"[a]: b\n\n", b"![]()a`\\", 5);
+    every_note(b"[a]", b"![]()<>a\" \n\\", 4);
 }
 
 #[test]

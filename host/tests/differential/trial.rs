@@ -57,7 +57,13 @@ impl Need {
     /// Whether a reference by its own text finds its definition by folding past Z alone.
     fn is_folded(&self, texts: Texts, row: &SpanRow) -> bool {
         let [kind, _, _, start, end, definition, ..] = *row;
-        if !matches!(kind, kind::COLLAPSED | kind::SHORTCUT) {
+        let by_text = [
+            kind::COLLAPSED,
+            kind::SHORTCUT,
+            kind::COLLAPSED_IMAGE,
+            kind::SHORTCUT_IMAGE,
+        ];
+        if !by_text.contains(&kind) {
             return false;
         }
         let own = &texts.note[start as usize..end as usize];
@@ -141,7 +147,9 @@ pub struct Tally {
     reader: Numbers,
     writer: Numbers,
     enquiry: Numbers,
-    kinds: [usize; 6],
+    kinds: [usize; 10],
+    /// Spans in another: links in images, images in links, images in images.
+    held: [usize; 3],
     /// Definitions past their text's first line, definitions over lines, spans past it, spans over lines.
     lines: [usize; 4],
     /// References to definitions of each text.
@@ -163,9 +171,14 @@ impl Tally {
         );
         assert!(from(&enquiry[0], &[0, 2, 7, 8]), "enquiry {enquiry:?}");
         assert!(
-            from(&self.kinds, &[1, 2, 3, 4, 5]),
+            from(&self.kinds, &[1, 2, 3, 4, 5, 6, 7, 8, 9]),
             "kinds of row {:?}",
             self.kinds
+        );
+        assert!(
+            from(&self.held, &[0, 1, 2]),
+            "in each other {:?}",
+            self.held
         );
         assert!(from(&self.lines, &[0, 1, 2, 3]), "lines {:?}", self.lines);
         assert!(self.folded >= least, "{} by folding", self.folded);
@@ -187,6 +200,25 @@ impl Tally {
             "references {:?}",
             self.references
         );
+    }
+
+    /// So did images, links in them and images in each other.
+    pub fn assert_images(&self, least: usize) {
+        let images = &self.kinds[kind::INLINE_IMAGE as usize..];
+        assert!(
+            images.iter().all(|count| *count >= least / 10),
+            "{images:?}"
+        );
+        assert!(images.iter().sum::<usize>() >= least, "{images:?}");
+        let held = &self.held;
+        assert!(held.iter().all(|count| *count >= least / 10), "{held:?}");
+    }
+
+    /// So did notes with too many brackets open, and notes with none too many.
+    pub fn assert_deep(&self, least: usize) {
+        let [reader, writer] = [&self.reader, &self.writer].map(|of| of[0]);
+        assert!(reader[4] >= least && reader[0] >= least, "{reader:?}");
+        assert!(writer[4] >= least && writer[0] >= least, "{writer:?}");
     }
 
     /// Releases were stopped.
@@ -217,6 +249,21 @@ impl Tally {
         }
         let folded = need.spans.iter().filter(|row| need.is_folded(texts, row));
         self.folded += folded.count();
+        self.count_held(&need.spans);
+    }
+
+    /// Counts the spans that are in the one whose row is the next: a span ends before what it stands in.
+    fn count_held(&mut self, rows: &[SpanRow]) {
+        let is_image = |row: &SpanRow| row[0] >= kind::INLINE_IMAGE;
+        let is_link = |row: &SpanRow| (kind::INLINE..=kind::SHORTCUT).contains(&row[0]);
+        for two in rows.windows(2) {
+            let [held, around] = [&two[0], &two[1]];
+            if held[1] > around[1] {
+                self.held[0] += usize::from(is_link(held) && is_image(around));
+                self.held[1] += usize::from(is_image(held) && is_link(around));
+                self.held[2] += usize::from(is_image(held) && is_image(around));
+            }
+        }
     }
 }
 

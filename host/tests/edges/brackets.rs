@@ -4,7 +4,7 @@ use super::{check, read, refused};
 use host::second::ReadAnswer;
 
 /// What refusal 4 answers for a note without definitions.
-fn too_deep(place: usize) -> ReadAnswer {
+pub(super) fn too_deep(place: usize) -> ReadAnswer {
     ReadAnswer {
         definition_rows: Some(Vec::new()),
         ..refused(4, place)

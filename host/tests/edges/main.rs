@@ -1,12 +1,16 @@
 //! The edges of document 01 against the second reader. Rows and numbers were computed by hand from
-//! document 01, lines and what a sheet adds from document 02; where the reader disagreed, they were counted
-//! again from the note. What characters fold to is from Unicode's file. But for those of `sheets` and `folding` the
-//! notes are read beside an empty sheet, and but for those of `release` and `folding` for no release.
+//! document 01, lines, images and what a sheet adds from document 02; where the reader disagreed, they were
+//! counted again from the note. What characters fold to is from Unicode's file. But for those of `sheets` and
+//! `folding`, and one of `images`, the notes are read beside an empty sheet, and but for those of `release` and
+//! `folding` for no release.
 
+mod alt;
 mod bench;
 mod blocks;
 mod brackets;
+mod deep_images;
 mod folding;
+mod images;
 mod labels;
 mod lengths;
 mod lines;

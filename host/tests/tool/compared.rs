@@ -8,6 +8,15 @@ use host::second::{self, kind, DefinitionRow, SpanRow};
 
 use crate::run::{notice, Folder, Ran};
 
+/// The kinds of links, and those of images: inline, full, collapsed, shortcut.
+const LINKS: [u32; 4] = [kind::INLINE, kind::FULL, kind::COLLAPSED, kind::SHORTCUT];
+const IMAGES: [u32; 4] = [
+    kind::INLINE_IMAGE,
+    kind::FULL_IMAGE,
+    kind::COLLAPSED_IMAGE,
+    kind::SHORTCUT_IMAGE,
+];
+
 /// Compares the tool with the second reader on a note that neither refuses, and says whether a release of it
 /// is stopped.
 pub fn compare(note: &str) -> bool {
@@ -119,24 +128,26 @@ impl<'t> Texts<'t> {
     }
 
     fn compare_spans(self, listed: &Value, rows: &[SpanRow], definitions: &[DefinitionRow]) {
-        let links = items(listed, "links").iter();
+        let of = |name, kinds: [u32; 4]| {
+            let items = items(listed, name).iter();
+            items.map(move |item| self.link_row(item, kinds, definitions))
+        };
+        let links = of("links", LINKS);
+        let images = of("images", IMAGES);
         let codes = items(listed, "code_spans").iter();
-        let mut made: Vec<SpanRow> = links
-            .map(|item| self.link_row(item, definitions))
-            .chain(codes.map(|item| self.code_row(item)))
-            .collect();
+        let codes = codes.map(|item| self.code_row(item));
+        let mut made: Vec<SpanRow> = links.chain(images).chain(codes).collect();
         made.sort_by_key(|row| row[2]);
         assert_eq!(made, rows, "{self:?}");
     }
 
-    fn link_row(self, item: &Value, definitions: &[DefinitionRow]) -> SpanRow {
-        let kind = match item.get("kind").and_then(Value::as_str) {
-            Some("inline") => kind::INLINE,
-            Some("full") => kind::FULL,
-            Some("collapsed") => kind::COLLAPSED,
-            Some("shortcut") => kind::SHORTCUT,
-            other => panic!("{self:?}: kind {other:?}"),
-        };
+    /// The row of a link or an image, whose kinds are given.
+    fn link_row(self, item: &Value, kinds: [u32; 4], definitions: &[DefinitionRow]) -> SpanRow {
+        let word = item.get("kind").and_then(Value::as_str).expect("a kind");
+        let place = ["inline", "full", "collapsed", "shortcut"]
+            .iter()
+            .position(|known| *known == word);
+        let kind = kinds[place.unwrap_or_else(|| panic!("{self:?}: kind {word}"))];
         let definition = self.definition_number(item, definitions);
         let target = match definition {
             0 => 0,

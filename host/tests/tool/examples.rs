@@ -4,13 +4,14 @@ use std::path::{Path, PathBuf};
 
 use crate::run::{notice_in, Ran};
 
-const GOOD: [&str; 7] = [
+const GOOD: [&str; 8] = [
     "formulary",
     "june",
     "limits",
     "max",
     "night-shift",
     "pump-library",
+    "pump-screens",
     "ward-round",
 ];
 const REFUSED: &str = "too-deep";
@@ -105,41 +106,48 @@ fn releases() {
     }
 }
 
+/// Examples, labels, and what these open.
+const DESTINATIONS: [(&str, &str, &str); 7] = [
+    (
+        "june",
+        "max rate",
+        "/pump/2026-06/max-rate, line 4 (column 13)\n",
+    ),
+    (
+        "june",
+        "\tMAX\nRate ",
+        "/pump/2026-06/max-rate, line 4 (column 13)\n",
+    ),
+    (
+        "june",
+        "pharmacy",
+        "mailto:pharmacy@ward.example, line 5 (column 14)\n",
+    ),
+    (
+        "pump-library",
+        "rollback",
+        "</pump/library/7.1 (kept)>, line 2 (column 14)\n",
+    ),
+    (
+        "pump-screens",
+        "alarm  e-17",
+        "</screens/7.2/alarm E-17.png>, line 2 (column 16)\n",
+    ),
+    (
+        "night-shift",
+        "On Call",
+        "tel:+00-555-0100, line 1 (column 12)\n",
+    ),
+    (
+        "ward-round",
+        "placebin limit",
+        "/trials/7/placebin, line 1 (column 19)\n",
+    ),
+];
+
 #[test]
 fn destinations() {
-    let answers = [
-        (
-            "june",
-            "max rate",
-            "/pump/2026-06/max-rate, line 4 (column 13)\n",
-        ),
-        (
-            "june",
-            "\tMAX\nRate ",
-            "/pump/2026-06/max-rate, line 4 (column 13)\n",
-        ),
-        (
-            "june",
-            "pharmacy",
-            "mailto:pharmacy@ward.example, line 5 (column 14)\n",
-        ),
-        (
-            "pump-library",
-            "rollback",
-            "</pump/library/7.1 (kept)>, line 2 (column 14)\n",
-        ),
-        (
-            "night-shift",
-            "On Call",
-            "tel:+00-555-0100, line 1 (column 12)\n",
-        ),
-        (
-            "ward-round",
-            "placebin limit",
-            "/trials/7/placebin, line 1 (column 19)\n",
-        ),
-    ];
-    for (name, label, wanted) in answers {
+    for (name, label, wanted) in DESTINATIONS {
         let file = format!("{name}.md");
         assert_eq!(run(&["where", label, &file]).good(), wanted, "{label:?}");
     }

@@ -1,9 +1,10 @@
 //! The command-line tool: its commands on the examples and on hard notes, refusals, files, sheets,
-//! releases, labels in other letters, usage.
+//! releases, labels in other letters, images, usage.
 
 mod compared;
 mod examples;
 mod files;
+mod images;
 mod letters;
 mod notes;
 mod output;

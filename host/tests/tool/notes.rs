@@ -27,7 +27,13 @@ fn the_tools_examples() {
     let example =
         |name| std::fs::read_to_string(format!("{folder}/{name}.md")).expect("an example");
     let sheet = example("limits");
-    for name in ["june", "night-shift", "pump-library", "ward-round"] {
+    for name in [
+        "june",
+        "night-shift",
+        "pump-library",
+        "pump-screens",
+        "ward-round",
+    ] {
         let note = example(name);
         compare(&note);
         compare_beside(&note, &sheet);
@@ -69,8 +75,10 @@ fn every_character_in_every_part() {
         let definitions = format!("[l{c}x]: <d{c}x> \"t{c}x\"\n[L{c}X]: d{c}x 't{c}x'\n\n");
         let paragraph =
             format!("[a{c}x](<d{c}x> (t{c}x)) [y][l{c}x] [l{c}x][] [l{c}x] `c{c}x` ``{c}``\n");
-        compare(&format!("{definitions}{paragraph}"));
-        compare_beside(&paragraph, &definitions);
+        let images =
+            format!("![a{c}x](<d{c}x> (t{c}x)) ![y][l{c}x] ![l{c}x][] ![`{c}`![{c}](e)](f)\n");
+        compare(&format!("{definitions}{paragraph}\n{images}"));
+        compare_beside(&format!("{paragraph}{images}"), &definitions);
         compare(&format!("[l{c}x]: <d{c}x> 't'\n[L{c}X]: <d{c}x> 't{c}x'\n"));
     }
 }
@@ -87,7 +95,7 @@ fn numbers() -> impl FnMut() -> usize {
 }
 
 /// What random notes are made of.
-const PIECES: [&str; 36] = [
+const PIECES: [&str; 40] = [
     "[",
     "[",
     "]",
@@ -124,6 +132,10 @@ const PIECES: [&str; 36] = [
     "[SS]",
     "[Ж]: w\n",
     "[ж]",
+    "![",
+    "![a]",
+    "](u)",
+    "!",
 ];
 
 fn random_note(next: &mut impl FnMut() -> usize) -> String {

@@ -69,7 +69,7 @@ fn nothing_to_show() {
     for note in ["", "\n", " \t\n\n", "[a]: b", "text"] {
         let ran = notice(&["links", "-"], note.as_bytes()).good();
         assert!(
-            ran.ends_with("\nLinks: none\n\nCode spans: none\n"),
+            ran.ends_with("\nLinks: none\n\nImages: none\n\nCode spans: none\n"),
             "{note:?}"
         );
         notice(&["links", "--json", "-"], note.as_bytes()).good();
@@ -78,6 +78,6 @@ fn nothing_to_show() {
     assert_eq!(notice(&["page", "-"], b"").good(), "");
     assert_eq!(
         notice(&["links", "--json", "-"], b"").good(),
-        "{\n\"definitions\": [],\n\"links\": [],\n\"code_spans\": []\n}\n"
+        "{\n\"definitions\": [],\n\"links\": [],\n\"images\": [],\n\"code_spans\": []\n}\n"
     );
 }

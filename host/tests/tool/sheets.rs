@@ -85,6 +85,8 @@ Links: 2
   3:1          shortcut  max   /n/max       no title  n line 1
   3:7          shortcut  min   /s/min       \"S\"       s line 3
 
+Images: none
+
 Code spans: none
 ";
     assert_eq!(run(&["links"]), table);

@@ -1,5 +1,5 @@
 -- An absent part starts at 0, and no other does; the sums fit, since the part's places in the note do.
-use Rattle.link.proofs.LinkRows.{part-absent, part-there}
+use Rattle.link.proofs.PairRows.{part-absent, part-there}
 use native.Mathlib.Omega.{arith}
 use mathlib.Core.Path.{_∙_}
 use borrow.Author.Needs.{needs}

@@ -20,7 +20,7 @@ slice-write-stack : tie.Need-slice-write-stack
 slice-write-stack c = search needs
 
 cast-stack-2 : tie.Need-cast-stack-2
-cast-stack-2 c = let a = c .before .before .before .before .before .args in let p = c .before .before .before .before .before .pre in omega (arith, line-small (a .note .now) (a .start) (a .spans .now) (a .w) (p .0) (c .before .count-lines .ensures) (p .1 .fits))
+cast-stack-2 c = let a = c .before .before .before .before .before .args in let p = c .before .before .before .before .before .pre in omega (arith, line-small (a .note .now) (a .start) (a .spans .now) (a .w) (p .0) (c .before .count-lines .ensures) (omega (arith, p .1 .some, p .1 .fits)))
 
 add-stack : tie.Need-add-stack
 add-stack c = search needs
@@ -41,7 +41,7 @@ same-length : tie.Need-same-length
 same-length c = search needs
 
 returns : tie.Need-returns
-returns c = let a = c .before .before .before .before .before .args in (opened-by (a .note .now) (a .start) (a .spans .now) (a .w) (c .before .count-lines .ensures), refl)
+returns c = let a = c .before .before .before .before .before .args in (opened-by (a .note .now) (a .start) (a .spans .now) (a .w) (a .size) (c .before .count-lines .ensures), refl)
 
 pub open-bracket-spec : {M : Type 1} → statement M
 open-bracket-spec =

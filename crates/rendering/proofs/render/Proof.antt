@@ -1,10 +1,10 @@
--- Each return keeps the promise, by what the reader answered and what was measured and written before it.
+-- Each return keeps the promise, by what the reader answered and, where it read the note, by what was written.
 use borrow.Author.Needs.{needs}
-use Rattle.rendering.proofs.Returns.{too-long, not-good, too-few-definitions, conflict-found, too-deep, too-few-spans, spanned, listing, short-page, page-written}
+use Rattle.rendering.proofs.Returns.{too-long, not-good, too-few-definitions, conflict-found, too-deep, too-few-spans, spanned, listing, page-done}
 use Rattle.rendering.proofs.render.Statement.{statement}
 use Rattle.rendering.proofs.render.Tie as tie
 
-ruleset returning = (too-long, not-good, too-few-definitions, conflict-found, too-deep, too-few-spans, short-page, page-written, needs)
+ruleset returning = (too-long, not-good, too-few-definitions, conflict-found, too-deep, too-few-spans, page-done, needs)
 
 read-requires : tie.Need-read-requires
 read-requires c κs = search needs
@@ -30,14 +30,12 @@ enum-known-n-3 c = search needs
 enum-known-d : tie.Need-enum-known-d
 enum-known-d c = search needs
 
-slice-relend-prefix-write-page : tie.Need-slice-relend-prefix-write-page
-slice-relend-prefix-write-page c = search needs
-
-slice-aggregate-write-page : tie.Need-slice-aggregate-write-page
-slice-aggregate-write-page c = search needs
-
-write-page-requires : tie.Need-write-page-requires
-write-page-requires c κs = let m = c .before .before .before .before .before .before .before .before .before .before .read .ensures in let e = c .before .before .before .before .d .given .1 in let p = c .before .before .before .before .before .before .before .before .before .before .before .before .before .before .before .before .before .before .args .page .now in (spanned p m e, listing p m e)
+render-rows-requires : tie.Need-render-rows-requires
+render-rows-requires c κs =
+    let m = c .before .before .before .before .before .before .before .before .before .before .read .ensures in
+    let e = c .before .before .before .before .d .given .1 in
+    let p = c .before .before .before .before .before .before .before .before .before .before .before .before .before .before .before .before .before .before .args .page .now in
+    (spanned p m e, listing p m e)
 
 same-length : tie.Need-same-length
 same-length c = search needs
@@ -45,59 +43,56 @@ same-length c = search needs
 same-length-2 : tie.Need-same-length-2
 same-length-2 c = search needs
 
-same-length-3 : tie.Need-same-length-3
-same-length-3 c = search needs
-
 returns : tie.Need-returns
 returns c = search returning
 
-write-page-requires-2 : tie.Need-write-page-requires-2
-write-page-requires-2 c κs = let m = c .before .before .before .before .before .before .before .before .before .before .before .before .before .before .before .before .before .read .ensures in let e = c .before .before .before .before .before .before .before .before .before .before .before .d .given .1 in let p = c .before .before .before .before .before .before .before .before .before .before .before .before .before .before .before .before .before .before .before .before .before .before .before .before .before .args .page .now in (spanned p m e, listing p m e)
+same-length-3 : tie.Need-same-length-3
+same-length-3 c = search needs
 
 same-length-4 : tie.Need-same-length-4
 same-length-4 c = search needs
 
-same-length-5 : tie.Need-same-length-5
-same-length-5 c = search needs
-
 returns-2 : tie.Need-returns-2
 returns-2 c = search returning
+
+same-length-5 : tie.Need-same-length-5
+same-length-5 c = search needs
 
 same-length-6 : tie.Need-same-length-6
 same-length-6 c = search needs
 
-same-length-7 : tie.Need-same-length-7
-same-length-7 c = search needs
-
 returns-3 : tie.Need-returns-3
 returns-3 c = search returning
+
+same-length-7 : tie.Need-same-length-7
+same-length-7 c = search needs
 
 same-length-8 : tie.Need-same-length-8
 same-length-8 c = search needs
 
-same-length-9 : tie.Need-same-length-9
-same-length-9 c = search needs
-
 returns-4 : tie.Need-returns-4
 returns-4 c = search returning
+
+same-length-9 : tie.Need-same-length-9
+same-length-9 c = search needs
 
 same-length-10 : tie.Need-same-length-10
 same-length-10 c = search needs
 
-same-length-11 : tie.Need-same-length-11
-same-length-11 c = search needs
-
 returns-5 : tie.Need-returns-5
 returns-5 c = search returning
+
+same-length-11 : tie.Need-same-length-11
+same-length-11 c = search needs
 
 same-length-12 : tie.Need-same-length-12
 same-length-12 c = search needs
 
-same-length-13 : tie.Need-same-length-13
-same-length-13 c = search needs
-
 returns-6 : tie.Need-returns-6
 returns-6 c = search returning
+
+same-length-13 : tie.Need-same-length-13
+same-length-13 c = search needs
 
 same-length-14 : tie.Need-same-length-14
 same-length-14 c = search needs
@@ -107,18 +102,6 @@ same-length-15 c = search needs
 
 returns-7 : tie.Need-returns-7
 returns-7 c = search returning
-
-same-length-16 : tie.Need-same-length-16
-same-length-16 c = search needs
-
-same-length-17 : tie.Need-same-length-17
-same-length-17 c = search needs
-
-same-length-18 : tie.Need-same-length-18
-same-length-18 c = search needs
-
-returns-8 : tie.Need-returns-8
-returns-8 c = search returning
 
 pub render-spec : {M : Type 1} → statement M
 render-spec =
@@ -132,33 +115,26 @@ render-spec =
     enum-known-k
     enum-known-n-3
     enum-known-d
-    slice-relend-prefix-write-page
-    slice-aggregate-write-page
-    write-page-requires
+    render-rows-requires
     same-length
     same-length-2
-    same-length-3
     returns
-    write-page-requires-2
+    same-length-3
     same-length-4
-    same-length-5
     returns-2
+    same-length-5
     same-length-6
-    same-length-7
     returns-3
+    same-length-7
     same-length-8
-    same-length-9
     returns-4
+    same-length-9
     same-length-10
-    same-length-11
     returns-5
+    same-length-11
     same-length-12
-    same-length-13
     returns-6
+    same-length-13
     same-length-14
     same-length-15
-    returns-7
-    same-length-16
-    same-length-17
-    same-length-18
-    returns-8)
+    returns-7)

@@ -12,9 +12,6 @@ use Rattle.step.proofs.tail_at.Tie as tie
 add-next : tie.Need-add-next
 add-next c = search needs
 
-add-text : tie.Need-add-text
-add-text c = search needs
-
 sub-text : tie.Need-sub-text
 sub-text c = search needs
 
@@ -58,7 +55,7 @@ returns c =
     let a = s .args in
     let p = s .pre in
     let told = c .before .before .tail-after .ensures in (
-      told .0 (a .closing + 1) ∙ tail-here (a .p .now) (labelsIn (texts (a .note .now) (a .sheet .now)) (a .definitions .now) (a .count)) (a .opening + 1) (a .closing),
+      told .0 (a .closing + 1) ∙ tail-here (a .p .now) (labelsIn (texts (a .note .now) (a .sheet .now)) (a .definitions .now) (a .count)) (a .from) (a .closing),
       (told .1 .0, back (a .p .now) (a .closing) (p .0 .close-at) (p .0 .inside) (a .marks .now) _ _ (p .1 .1) (told .1 .1)),
     )
 
@@ -67,7 +64,6 @@ tail-at-spec =
     tie.close
     (tie.spec
     add-next
-    add-text
     sub-text
     part-text-start
     part-text-end

@@ -1,99 +1,99 @@
--- What the rows at the cursors call for, or the text before it.
-use Prim.Native.Nat.{ℕ}
+-- What the row that starts there calls for, or the row whose text ends there, or the text before the next of these.
+use Prim.Native.Nat.{_<_}
 use native.Mathlib.Omega.{arith}
-use mathlib.Core.Path.{sym, subst}
-use mathlib.Core.List.{List}
+use mathlib.Core.Path.{sym}
 use borrow.Author.Needs.{needs}
-use Rattle.texts.specs.Texts.{texts}
-use Rattle.writer.specs.Pass.{Called}
-use Rattle.cursor.proofs.Rows.{row-read}
-use Rattle.cursor.proofs.Found.{row-of-note}
-use Rattle.writer.proofs.Here.{goes, code-row, link-row, text-run}
+use Rattle.cursor.specs.Starts.{places}
+use Rattle.writer.proofs.Here.{in-table, start-index, start-span, start-goes, goes, close-index, close-start, close-span, part-size, text-run}
 use Rattle.writer.proofs.write_next.Statement.{statement}
 use Rattle.writer.proofs.write_next.Tie as tie
 
-next-row-requires : tie.Need-next-row-requires
-next-row-requires c κs = search needs
+mul-entry : tie.Need-mul-entry
+mul-entry c = search needs
 
-next-row-requires-2 : tie.Need-next-row-requires-2
-next-row-requires-2 c κs = search needs
+shared-slice-read-entry : tie.Need-shared-slice-read-entry
+shared-slice-read-entry c = let a = c .before .before .before .before .before .before .before .pre in in-table (a .0) (a .1 .0) (a .1 .1 .1)
 
-row-place-requires : tie.Need-row-place-requires
-row-place-requires c κs = search needs
+-- ---- a row starts there
+row-of-requires : tie.Need-row-of-requires
+row-of-requires c κs = omega (arith, c .if1 .taken)
 
 span-at-requires : tie.Need-span-at-requires
-span-at-requires c κs =
-    let l = c .before .before in
-    let t = l .before .before .before .before .before .before .before in
-    let f = l .before .next-row .ensures in
-    let g = l .next-row2 .ensures in
-    omega (arith, t .pre .0 .room, code-row (t .pre .0) (t .pre .1 .1) f g (c .before .row-place .ensures) (c .if1 .taken) .0)
+span-at-requires c κs = let a = c .before .before .before .before .before .before .before .before .before .pre in omega (arith, a .0 .room, start-index (a .0) (a .1 .0) (a .1 .1 .1) (c .before .if1 .taken) (c .row-of .ensures))
 
-write-row-requires : tie.Need-write-row-requires
-write-row-requires c κs =
-    let l = c .before .before .before .before in
-    let t = l .before .before .before .before .before .before .before in
-    let T = texts (t .args .note .now) (t .args .sheet .now) in
-    let f = l .before .next-row .ensures in
-    let g = l .next-row2 .ensures in
-    let (h, r) = code-row (t .pre .0) (t .pre .1 .1) f g (c .before .before .before .row-place .ensures) (c .before .before .if1 .taken) in
-    let row = row-read (t .args .spans .now) (t .pre .0 .room) h (c .before .span-at .ensures) in
-    (t .pre .1 .0, (subst (λ (x : List ℕ). Called T (t .args .end) x (t .args .p .at)) (sym (row-of-note T (t .args .spans .now) _ _ (r .is-row) row)) r, t .pre .1 .1 .room))
+has-tags-requires : tie.Need-has-tags-requires
+has-tags-requires c κs = search needs
+
+write-start-requires : tie.Need-write-start-requires
+write-start-requires c κs =
+    let a = c .before .before .before .before .before .before .before .before .before .before .before .before .pre in (
+      a .1 .1 .0,
+      (start-span (a .0) (a .1 .0) (a .1 .1 .1) (c .before .before .before .before .if1 .taken) (c .before .before .before .row-of .ensures) (c .before .before .span-at .ensures) (c .before .has-tags .ensures), a .1 .1 .1 .room),
+    )
 
 same-length : tie.Need-same-length
 same-length c = search needs
 
 returns : tie.Need-returns
-returns c =
-    let l = c .before .before .before .before .before .before .before in
-    let t = l .before .before .before .before .before .before .before in
-    let f = l .before .next-row .ensures in
-    let g = l .next-row2 .ensures in
-    goes (t .pre .0) (t .pre .1 .1) f g (c .before .before .write-row .ensures)
+returns c = let a = c .before .before .before .before .before .before .before .before .before .before .before .before .before .before .before .pre in start-goes (a .0) (a .1 .0) (a .1 .1 .1) (c .before .before .write-start .ensures)
 
-row-place-requires-2 : tie.Need-row-place-requires-2
-row-place-requires-2 c κs = search needs
+-- ---- no row starts there
+next-closing-requires : tie.Need-next-closing-requires
+next-closing-requires c κs = search needs
+
+closing-place-requires : tie.Need-closing-place-requires
+closing-place-requires c κs = search needs
 
 span-at-requires-2 : tie.Need-span-at-requires-2
 span-at-requires-2 c κs =
-    let l = c .before .before .before .before in
-    let t = l .before .before .before .before .before .before .before in
-    let f = l .before .next-row .ensures in
-    let g = l .next-row2 .ensures in
-    omega (arith, t .pre .0 .room, link-row (t .pre .0) (t .pre .1 .1) f g (c .before .before .before .row-place .ensures) (c .before .before .if1 .left) (c .before .row-place2 .ensures) (c .if2 .taken) .0)
+    let a = c .before .before .before .before .before .before .before .before .before .before .before .pre in
+    omega (arith, a .0 .room, close-index (a .0) (a .1 .0) (a .1 .1 .1) (c .before .before .before .if1 .left) (c .before .before .next-closing .ensures) (c .before .closing-place .ensures) (c .if2 .taken))
 
-write-row-requires-2 : tie.Need-write-row-requires-2
-write-row-requires-2 c κs =
-    let l = c .before .before .before .before .before .before in
-    let t = l .before .before .before .before .before .before .before in
-    let T = texts (t .args .note .now) (t .args .sheet .now) in
-    let f = l .before .next-row .ensures in
-    let g = l .next-row2 .ensures in
-    let (h, r) = link-row (t .pre .0) (t .pre .1 .1) f g (c .before .before .before .before .before .row-place .ensures) (c .before .before .before .before .if1 .left) (c .before .before .before .row-place2 .ensures) (c .before .before .if2 .taken) in
-    let row = row-read (t .args .spans .now) (t .pre .0 .room) h (c .before .span-at2 .ensures) in
-    (t .pre .1 .0, (subst (λ (x : List ℕ). Called T (t .args .end) x (t .args .p .at)) (sym (row-of-note T (t .args .spans .now) _ _ (r .is-row) row)) r, t .pre .1 .1 .room))
+-- where the row starts whose text ends there
+start : (c : tie.After-span-at2) → c .span-at2 .result .whole .start < places
+start c =
+    let a = c .before .before .before .before .before .before .before .before .before .before .before .before .pre in
+    close-start (a .0) (a .1 .0) (a .1 .1 .1) (c .before .before .before .before .if1 .left) (c .before .before .before .next-closing .ensures) (c .before .before .closing-place .ensures) (c .before .if2 .taken) (c .span-at2 .ensures)
+
+mul-has-tags : tie.Need-mul-has-tags
+mul-has-tags c = search (start c, needs)
+
+shared-slice-read-has-tags : tie.Need-shared-slice-read-has-tags
+shared-slice-read-has-tags c = omega (arith, start (c .before), c .before .before .before .before .before .before .before .before .before .before .before .before .before .pre .1 .0 .long)
+
+has-tags-requires-2 : tie.Need-has-tags-requires-2
+has-tags-requires-2 c κs = search needs
+
+write-close-requires : tie.Need-write-close-requires
+write-close-requires c κs =
+    let a = c .before .before .before .before .before .before .before .before .before .before .before .before .before .before .before .pre in (
+      a .1 .1 .0,
+      (
+        close-span (a .0) (a .1 .0) (a .1 .1 .1) (c .before .before .before .before .before .before .before .if1 .left) (c .before .before .before .before .before .before .next-closing .ensures) (c .before .before .before .before .before .closing-place .ensures) (c .before .before .before .before .if2 .taken) (c .before .before .before .span-at2 .ensures) (c .before .has-tags2 .ensures),
+        a .1 .1 .1 .room,
+      ),
+    )
 
 same-length-2 : tie.Need-same-length-2
 same-length-2 c = search needs
 
 returns-2 : tie.Need-returns-2
-returns-2 c =
-    let l = c .before .before .before .before .before .before .before .before .before in
-    let t = l .before .before .before .before .before .before .before in
-    let f = l .before .next-row .ensures in
-    let g = l .next-row2 .ensures in
-    goes (t .pre .0) (t .pre .1 .1) f g (c .before .before .write-row2 .ensures)
+returns-2 c = let a = c .before .before .before .before .before .before .before .before .before .before .before .before .before .before .before .before .before .before .pre in goes (a .0) (a .1 .0) (a .1 .1 .1) (c .before .before .before .before .before .before .before .before .before .before .if1 .left) (c .before .before .before .before .before .before .before .before .before .next-closing .ensures) (c .before .before .write-close .ensures)
+
+slice-aggregate-next-start : tie.Need-slice-aggregate-next-start
+slice-aggregate-next-start c = let a = c .before .before .before .before .before .before .before .before .before .before .before .before .pre in sym (part-size (a .0) (a .1 .0) (a .1 .1 .1) (c .before .before .before .before .if1 .left) (c .before .before .before .next-closing .ensures) (c .before .before .closing-place .ensures))
+
+next-start-requires : tie.Need-next-start-requires
+next-start-requires c κs = search needs
 
 write-text-requires : tie.Need-write-text-requires
 write-text-requires c κs =
-    let l = c .before .before .before .before .before in
-    let t = l .before .before .before .before .before .before .before in
-    let f = l .before .next-row .ensures in
-    let g = l .next-row2 .ensures in
+    let t = c .before .before .before .before .before .before .before .before .before .before .before .before .before .before in
+    let a = t .pre in
     record {
       sheet = t .args .sheet .now;
-      plain = text-run (t .pre .0) (t .pre .1 .1) f g (c .before .before .before .before .row-place .ensures) (c .before .before .before .if1 .left) (c .before .before .row-place2 .ensures) (c .before .if2 .left);
-      room = t .pre .1 .1 .room;
+      plain = text-run (a .0) (a .1 .0) (a .1 .1 .1) (c .before .before .before .before .before .before .if1 .left) (c .before .before .before .before .before .next-closing .ensures) (c .before .before .before .before .closing-place .ensures) (c .before .before .before .if2 .left) (c .before .next-start .ensures);
+      room = a .1 .1 .1 .room;
     }
 
 same-length-3 : tie.Need-same-length-3
@@ -101,29 +101,34 @@ same-length-3 c = search needs
 
 returns-3 : tie.Need-returns-3
 returns-3 c =
-    let l = c .before .before .before .before .before .before .before .before in
-    let t = l .before .before .before .before .before .before .before in
-    let f = l .before .next-row .ensures in
-    let g = l .next-row2 .ensures in
-    let plain = text-run (t .pre .0) (t .pre .1 .1) f g (c .before .before .before .before .before .before .before .row-place .ensures) (c .before .before .before .before .before .before .if1 .left) (c .before .before .before .before .before .row-place2 .ensures) (c .before .before .before .before .if2 .left) in
-    goes (t .pre .0) (t .pre .1 .1) f g (c .before .before .write-text .ensures (t .args .sheet .now) plain)
+    let t = c .before .before .before .before .before .before .before .before .before .before .before .before .before .before .before .before .before in
+    let a = t .pre in
+    let plain = text-run (a .0) (a .1 .0) (a .1 .1 .1) (c .before .before .before .before .before .before .before .before .before .if1 .left) (c .before .before .before .before .before .before .before .before .next-closing .ensures) (c .before .before .before .before .before .before .before .closing-place .ensures) (c .before .before .before .before .before .before .if2 .left) (c .before .before .before .before .next-start .ensures) in
+    goes (a .0) (a .1 .0) (a .1 .1 .1) (c .before .before .before .before .before .before .before .before .before .if1 .left) (c .before .before .before .before .before .before .before .before .next-closing .ensures) (c .before .before .write-text .ensures (t .args .sheet .now) plain)
 
 pub write-next-spec : {M : Type 1} → statement M
 write-next-spec =
     tie.close
     (tie.spec
-    next-row-requires
-    next-row-requires-2
-    row-place-requires
+    mul-entry
+    shared-slice-read-entry
+    row-of-requires
     span-at-requires
-    write-row-requires
+    has-tags-requires
+    write-start-requires
     same-length
     returns
-    row-place-requires-2
+    next-closing-requires
+    closing-place-requires
     span-at-requires-2
-    write-row-requires-2
+    mul-has-tags
+    shared-slice-read-has-tags
+    has-tags-requires-2
+    write-close-requires
     same-length-2
     returns-2
+    slice-aggregate-next-start
+    next-start-requires
     write-text-requires
     same-length-3
     returns-3)

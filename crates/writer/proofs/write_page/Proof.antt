@@ -10,10 +10,10 @@ use Rattle.writer.proofs.write_page.Tie as tie
 ruleset turns = (pages, all-written, starts, further, needs)
 
 abbrev Inv-loop : tie.InvT-loop
-Inv-loop note sheet definitions spans count page₀ next₀ p₀ page next p = Pages (texts note sheet) page₀ page next p
+Inv-loop note sheet definitions spans count starts page₀ next₀ p₀ page next p = Pages (texts note sheet) page₀ page next p
 
 abbrev μ-loop : tie.MeasureT-loop
-μ-loop note sheet definitions spans count page₀ next₀ p₀ page next p = length note - next
+μ-loop note sheet definitions spans count starts page₀ next₀ p₀ page next p = length note - next
 
 loop-holds : tie.Need-loop-holds Inv-loop μ-loop
 loop-holds c = search turns
@@ -34,7 +34,9 @@ returns : tie.Need-returns Inv-loop μ-loop
 returns c = search turns
 
 write-paragraph-requires : tie.Need-write-paragraph-requires Inv-loop μ-loop
-write-paragraph-requires c κs = search turns
+write-paragraph-requires c κs =
+    let a = c .before .before .before .before .before .before .before .before .before .before .before .before .pre in
+    (a .0, (a .1 .0, (a .1 .1, starts (c .before .before .before .before .before .loop .inv) (c .before .before .before .before .next-paragraph .ensures) (c .before .before .start .given .1) (a .0))))
 
 loop-less : tie.Need-loop-less Inv-loop μ-loop
 loop-less c = less (c .before .before .before .before .before .before .before .before .loop .inv) (c .before .before .before .before .before .before .before .next-paragraph .ensures) (c .before .before .before .before .before .start .given .1)

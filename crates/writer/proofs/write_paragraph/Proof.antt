@@ -10,40 +10,42 @@ use Rattle.writer.proofs.write_paragraph.Statement.{statement}
 use Rattle.writer.proofs.write_paragraph.Tie as tie
 
 abbrev Inv-loop : tie.InvT-loop
-Inv-loop note sheet definitions spans count end page₀ w₀ t11 page w = Going (texts note sheet) end w₀ page₀ page w
+Inv-loop note sheet definitions spans count starts end page₀ w₀ t11 page w = Going (texts note sheet) end w₀ page₀ page w
 
 abbrev μ-loop : tie.MeasureT-loop
-μ-loop note sheet definitions spans count end page₀ w₀ t11 page w = end - w .at
+μ-loop note sheet definitions spans count starts end page₀ w₀ t11 page w = end - w .at
 
 slice-aggregate-put : tie.Need-slice-aggregate-put Inv-loop μ-loop
 slice-aggregate-put c = search needs
 
 put-requires : tie.Need-put-requires Inv-loop μ-loop
-put-requires c κs = open-room (c .before .before .before .before .before .before .before .pre .1 .1)
+put-requires c κs = open-room (c .before .before .before .before .before .before .before .before .pre .1 .1 .1)
 
 loop-holds : tie.Need-loop-holds Inv-loop μ-loop
-loop-holds c = opened (c .before .before .before .before .before .before .before .before .before .before .pre .1 .1) (c .before .before .put .ensures)
+loop-holds c = opened (c .before .before .before .before .before .before .before .before .before .before .before .pre .1 .1 .1) (c .before .before .put .ensures)
 
 write-next-requires : tie.Need-write-next-requires Inv-loop μ-loop
-write-next-requires c κs = let t = c .before .before .before .before .before .before .before .before .before .before .before .before .before .before in (t .pre .0, (t .pre .1 .0, stands (t .pre .1 .1) (c .before .before .before .before .before .before .put .ensures) (c .before .before .before .loop .inv) (c .before .if1 .taken)))
+write-next-requires c κs =
+    let a = c .before .before .before .before .before .before .before .before .before .before .before .before .before .before .before .pre in
+    (a .0, (a .1 .0, (a .1 .1 .0, stands (a .1 .1 .1) (c .before .before .before .before .before .before .put .ensures) (c .before .before .before .loop .inv) (c .before .if1 .taken))))
 
 loop-less : tie.Need-loop-less Inv-loop μ-loop
 loop-less c = omega (arith, c .before .before .write-next .ensures .onward, c .before .before .before .before .if1 .taken)
 
 loop-again : tie.Need-loop-again Inv-loop μ-loop
-loop-again c = goes-on (c .before .before .before .before .before .before .before .before .before .before .before .before .before .before .before .before .before .pre .1 .1) (c .before .before .before .before .before .before .before .before .before .put .ensures) (c .before .before .before .before .before .before .loop .inv) (c .before .before .before .before .if1 .taken) (c .before .before .write-next .ensures)
+loop-again c = goes-on (c .before .before .before .before .before .before .before .before .before .before .before .before .before .before .before .before .before .before .pre .1 .1 .1) (c .before .before .before .before .before .before .before .before .before .put .ensures) (c .before .before .before .before .before .before .loop .inv) (c .before .before .before .before .if1 .taken) (c .before .before .write-next .ensures)
 
 slice-aggregate-put-2 : tie.Need-slice-aggregate-put-2 Inv-loop μ-loop
 slice-aggregate-put-2 c = search needs
 
 put-requires-2 : tie.Need-put-requires-2 Inv-loop μ-loop
-put-requires-2 c κs = omega (arith, close-room (c .before .before .before .before .before .before .before .before .before .before .before .before .before .before .before .pre .1 .1) (c .before .before .before .before .before .before .before .put .ensures) (c .before .before .before .before .loop .inv) (c .before .before .if1 .left))
+put-requires-2 c κs = omega (arith, close-room (c .before .before .before .before .before .before .before .before .before .before .before .before .before .before .before .before .pre .1 .1 .1) (c .before .before .before .before .before .before .before .put .ensures) (c .before .before .before .before .loop .inv) (c .before .before .if1 .left))
 
 same-length : tie.Need-same-length Inv-loop μ-loop
 same-length c = same (c .before .before .put2 .ensures) ∙ c .before .before .before .before .before .before .before .loop .inv .written .same ∙ same (c .before .before .before .before .before .before .before .before .before .before .put .ensures)
 
 returns : tie.Need-returns Inv-loop μ-loop
-returns c = closed (c .before .before .before .before .before .before .before .before .before .before .before .before .before .before .before .before .before .before .pre .1 .1) (c .before .before .before .before .before .before .before .before .before .before .put .ensures) (c .before .before .before .before .before .before .before .loop .inv) (c .before .before .before .before .before .if1 .left) (c .before .before .put2 .ensures)
+returns c = closed (c .before .before .before .before .before .before .before .before .before .before .before .before .before .before .before .before .before .before .before .pre .1 .1 .1) (c .before .before .before .before .before .before .before .before .before .before .put .ensures) (c .before .before .before .before .before .before .before .loop .inv) (c .before .before .before .before .before .if1 .left) (c .before .before .put2 .ensures)
 
 pub write-paragraph-spec : {M : Type 1} → statement M
 write-paragraph-spec =

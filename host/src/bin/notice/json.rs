@@ -1,4 +1,4 @@
-//! The listing as JSON: an object with the arrays `definitions`, `links` and `code_spans`, an item a
+//! The listing as JSON: an object with the arrays `definitions`, `links`, `images` and `code_spans`, an item a
 //! line. Every key is always there; what is absent is null. The keys of files are there where there
 //! are two files.
 
@@ -12,10 +12,10 @@ use crate::texts::{Files, Which};
 pub fn text(listing: &Listing, files: &Files) -> String {
     let definitions = listing.definitions.iter().enumerate();
     let definitions = definitions.map(|(index, one)| definition(index + 1, one, files));
-    let links = listing.links.iter().map(|one| link(one, files));
     let arrays = [
         array("definitions", definitions),
-        array("links", links),
+        links("links", &listing.links, files),
+        links("images", &listing.images, files),
         array("code_spans", listing.codes.iter().map(code)),
     ];
     format!("{{\n{}\n}}\n", arrays.join(",\n"))
@@ -59,13 +59,18 @@ fn hidden(hidden: &Hidden, files: &Files) -> String {
     object(&members)
 }
 
+fn links(name: &str, list: &[Link], files: &Files) -> String {
+    array(name, list.iter().map(|one| link(one, files)))
+}
+
+/// A link or an image.
 fn link(link: &Link, files: &Files) -> String {
     let definition = link.definition.as_ref();
     let number = |named: &Named| named.number.to_string();
     let line = |named: &Named| named.line.to_string();
     let which = definition.map(|named| named.which);
     let mut members = vec![
-        ("kind", string(link.kind.word())),
+        ("kind", string(link.form.word())),
         ("line", link.place.line.to_string()),
         ("column", link.place.column.to_string()),
         ("start", link.whole.start.to_string()),

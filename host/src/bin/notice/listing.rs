@@ -1,4 +1,4 @@
-//! What `notice links` lists: definitions, links and code spans, each with its place and text.
+//! What `notice links` lists: definitions, links, images and code spans, each with its place and text.
 
 use std::borrow::Cow;
 use std::ops::Range;
@@ -6,7 +6,7 @@ use std::ops::Range;
 use crate::definitions::{Definitions, Difference};
 use crate::library::{self, Failure};
 use crate::places::Place;
-use crate::rows::{self, Kind, SpanRow};
+use crate::rows::{self, Form, Kind, SpanRow};
 use crate::texts::{Texts, Which};
 
 /// A part of the note or the sheet, and its text.
@@ -45,9 +45,9 @@ pub struct Named {
     pub line: usize,
 }
 
-/// A link.
+/// A link or an image.
 pub struct Link<'n> {
-    pub kind: Kind,
+    pub form: Form,
     pub place: Place,
     pub whole: Range<usize>,
     pub text: Part<'n>,
@@ -63,11 +63,12 @@ pub struct Code<'n> {
     pub text: Part<'n>,
 }
 
-/// Everything listed, in order: the note's definitions, then the sheet's; the note's links and code
+/// Everything listed, in order: the note's definitions, then the sheet's; the note's links, images and code
 /// spans.
 pub struct Listing<'n> {
     pub definitions: Vec<Definition<'n>>,
     pub links: Vec<Link<'n>>,
+    pub images: Vec<Link<'n>>,
     pub codes: Vec<Code<'n>>,
 }
 
@@ -78,16 +79,20 @@ pub fn of(texts: &Texts) -> Result<Listing<'_>, Failure> {
         rows::spans(&tables.spans).ok_or_else(|| library::fault("a span row of no kind"))?;
     let definitions = Definitions::of(texts, &tables.definitions)?;
     let lister = Lister { texts, definitions };
-    let (codes, links): (Vec<SpanRow>, Vec<SpanRow>) =
-        spans.into_iter().partition(|row| row.kind == Kind::Code);
-    Ok(Listing {
+    let mut listing = Listing {
         definitions: lister.definitions()?,
-        links: links
-            .into_iter()
-            .map(|row| lister.link(row))
-            .collect::<Result<_, _>>()?,
-        codes: codes.into_iter().map(|row| lister.code(row)).collect(),
-    })
+        links: Vec::new(),
+        images: Vec::new(),
+        codes: Vec::new(),
+    };
+    for row in spans {
+        match row.kind {
+            Kind::Code => listing.codes.push(lister.code(row)),
+            Kind::Link(form) => listing.links.push(lister.link(form, row)?),
+            Kind::Image(form) => listing.images.push(lister.link(form, row)?),
+        }
+    }
+    Ok(listing)
 }
 
 struct Lister<'n> {
@@ -145,7 +150,8 @@ impl<'n> Lister<'n> {
         }
     }
 
-    fn link(&self, row: SpanRow) -> Result<Link<'n>, Failure> {
+    /// A link or an image.
+    fn link(&self, form: Form, row: SpanRow) -> Result<Link<'n>, Failure> {
         let definitions = self.definitions.rows.len();
         if row.definition.is_some_and(|number| number > definitions) {
             return Err(library::fault("a reference to no definition"));
@@ -153,7 +159,7 @@ impl<'n> Lister<'n> {
         let definition = row.definition.map(|number| self.named(number - 1));
         let target = definition.map_or(Which::Note, |named| named.which);
         Ok(Link {
-            kind: row.kind,
+            form,
             place: self.place(&row),
             whole: row.whole,
             text: self.part(Which::Note, row.text),

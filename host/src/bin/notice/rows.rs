@@ -21,10 +21,17 @@ pub struct DefinitionRow {
     pub line: usize,
 }
 
-/// "The five kinds of row have fixed numbers".
+/// "The five kinds of row have fixed numbers", and so have the four of images.
 #[derive(Clone, Copy, Debug, PartialEq, Eq)]
 pub enum Kind {
     Code,
+    Link(Form),
+    Image(Form),
+}
+
+/// What stands after the second bracket of a link or an image.
+#[derive(Clone, Copy, Debug, PartialEq, Eq)]
+pub enum Form {
     Inline,
     Full,
     Collapsed,
@@ -51,21 +58,26 @@ impl Kind {
     fn of(number: u32) -> Option<Kind> {
         match number {
             1 => Some(Kind::Code),
-            2 => Some(Kind::Inline),
-            3 => Some(Kind::Full),
-            4 => Some(Kind::Collapsed),
-            5 => Some(Kind::Shortcut),
+            2 => Some(Kind::Link(Form::Inline)),
+            3 => Some(Kind::Link(Form::Full)),
+            4 => Some(Kind::Link(Form::Collapsed)),
+            5 => Some(Kind::Link(Form::Shortcut)),
+            6 => Some(Kind::Image(Form::Inline)),
+            7 => Some(Kind::Image(Form::Full)),
+            8 => Some(Kind::Image(Form::Collapsed)),
+            9 => Some(Kind::Image(Form::Shortcut)),
             _ => None,
         }
     }
+}
 
+impl Form {
     pub fn word(self) -> &'static str {
         match self {
-            Kind::Code => "code",
-            Kind::Inline => "inline",
-            Kind::Full => "full",
-            Kind::Collapsed => "collapsed",
-            Kind::Shortcut => "shortcut",
+            Form::Inline => "inline",
+            Form::Full => "full",
+            Form::Collapsed => "collapsed",
+            Form::Shortcut => "shortcut",
         }
     }
 }
@@ -116,7 +128,7 @@ fn part(start: u32, end: u32) -> Option<Range<usize>> {
 
 #[cfg(test)]
 mod tests {
-    use super::{definitions, spans, DefinitionRow, Kind, SpanRow};
+    use super::{definitions, spans, DefinitionRow, Form, Kind, SpanRow};
     use crate::texts::Which;
 
     /// The numbers of a row all differ, so that none can stand for another.
@@ -146,9 +158,12 @@ mod tests {
         };
         let table = [
             [3, 21, 22, 23, 24, 25, 26, 27, 28, 29, 30],
-            [5, 21, 22, 23, 24, 25, 26, 27, 28, 29, 31],
+            [9, 21, 22, 23, 24, 25, 26, 27, 28, 29, 31],
         ];
-        let rows = [row(Kind::Full, 30), row(Kind::Shortcut, 31)];
+        let rows = [
+            row(Kind::Link(Form::Full), 30),
+            row(Kind::Image(Form::Shortcut), 31),
+        ];
         assert_eq!(spans(&table.concat()), Some(rows.into()));
     }
 
@@ -164,8 +179,20 @@ mod tests {
     }
 
     #[test]
+    fn every_kind_has_its_number() {
+        let forms = [Form::Inline, Form::Full, Form::Collapsed, Form::Shortcut];
+        let mut wanted = vec![Kind::Code];
+        wanted.extend(forms.map(Kind::Link));
+        wanted.extend(forms.map(Kind::Image));
+        let kinds = (1..=9).filter_map(Kind::of);
+        assert_eq!(kinds.collect::<Vec<_>>(), wanted);
+    }
+
+    #[test]
     fn numbers_that_stand_for_nothing() {
         assert_eq!(definitions(&[2, 1, 2, 5, 6, 0, 0, 1]), None);
-        assert_eq!(spans(&[6, 0, 3, 1, 2, 0, 0, 0, 0, 0, 1]), None);
+        for kind in [0, 10] {
+            assert_eq!(spans(&[kind, 0, 3, 1, 2, 0, 0, 0, 0, 0, 1]), None);
+        }
     }
 }

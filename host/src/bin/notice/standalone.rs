@@ -4,20 +4,22 @@ use std::ffi::OsStr;
 
 use crate::files;
 
-/// What comes before the title. Scripts, frames and pictures are shut out: a notice has none.
+/// What comes before the title. Scripts and frames are shut out: a notice has none.
 const BEFORE_TITLE: &str = r#"<!DOCTYPE html>
 <html>
 <head>
 <meta charset="utf-8">
 <meta name="viewport" content="width=device-width, initial-scale=1">
-<meta http-equiv="Content-Security-Policy" content="default-src 'none'; style-src 'unsafe-inline'">
+<meta http-equiv="Content-Security-Policy" content="default-src 'none'; img-src * data: file:; style-src 'unsafe-inline'">
 <title>"#;
 
+/// A picture is no wider than the page; where it can't be shown, its description stands in a frame.
 const AFTER_TITLE: &str = "</title>
 <style>
 body { max-width: 40rem; margin: 0 auto; padding: 1rem; font: 1.1rem/1.5 sans-serif; color: #222; background: #fff; overflow-wrap: anywhere; }
 code { padding: 0 0.2em; background: #eee; font-family: monospace; white-space: pre-wrap; }
 a { color: #0645ad; }
+img { max-width: 100%; height: auto; outline: 1px solid #ccc; font-style: italic; white-space: pre-line; }
 </style>
 </head>
 <body>

@@ -12,11 +12,11 @@ const WIDEST: usize = 60;
 
 /// The whole listing. Where there are two files, each definition says in which it stands.
 pub fn text(listing: &Listing, files: &Files) -> String {
-    let links = listing.links.iter().map(|one| link(one, files).into());
     let codes = listing.codes.iter().map(|one| code(one).into());
     [
         definitions(&listing.definitions, files),
-        part("Links", "", heads(LINK_HEADS).into(), links),
+        links("Links", "TEXT", &listing.links, files),
+        links("Images", "DESCRIPTION", &listing.images, files),
         part("Code spans", "", heads(CODE_HEADS).into(), codes),
     ]
     .join("\n")
@@ -24,14 +24,6 @@ pub fn text(listing: &Listing, files: &Files) -> String {
 
 const FILE_HEAD: &str = "FILE";
 const DEFINITION_HEADS: [&str; 5] = ["LINE:COLUMN", "LABEL", "DESTINATION", "TITLE", "STATE"];
-const LINK_HEADS: [&str; 6] = [
-    "LINE:COLUMN",
-    "KIND",
-    "TEXT",
-    "DESTINATION",
-    "TITLE",
-    "DEFINITION",
-];
 const CODE_HEADS: [&str; 2] = ["LINE:COLUMN", "CODE"];
 
 fn heads<const COLUMNS: usize>(heads: [&str; COLUMNS]) -> [String; COLUMNS] {
@@ -100,10 +92,24 @@ fn line_of(named: &Named, files: &Files) -> String {
     }
 }
 
+/// Links or images; `text` heads what stands between their brackets.
+fn links(name: &str, text: &str, list: &[Link], files: &Files) -> String {
+    let heads = heads([
+        "LINE:COLUMN",
+        "KIND",
+        text,
+        "DESTINATION",
+        "TITLE",
+        "DEFINITION",
+    ]);
+    let rows = list.iter().map(|one| link(one, files).into());
+    part(name, "", heads.into(), rows)
+}
+
 fn link(link: &Link, files: &Files) -> [String; 6] {
     [
         place(link.place),
-        link.kind.word().to_string(),
+        link.form.word().to_string(),
         visible::visible(&link.text.text),
         link.destination.as_ref().map_or_else(
             || "no destination".to_string(),

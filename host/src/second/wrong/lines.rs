@@ -103,7 +103,7 @@ fn line_feeds_within(marking: &Marking, place: u32, sort: impl Fn(&Piece) -> boo
 
 /// The places of the opening brackets before a place.
 fn openings_before<'m>(marking: &'m Marking, place: u32) -> impl Iterator<Item = usize> + 'm {
-    let opening = |piece: &&Piece| piece.kind == PieceKind::Opening;
+    let opening = |piece: &&Piece| piece.opens().is_some();
     let openings = marking.pieces.iter().filter(opening);
     let places = openings.map(|piece| marking.text.place(piece.from));
     places.take_while(move |opening| *opening < place as usize)

@@ -25,17 +25,46 @@ impl Reader {
         if !self.misreads(Wrong::OpenCarriedOver) {
             return 0;
         }
-        let opening = |piece: &&Piece| piece.kind == PieceKind::Opening;
+        let opening = |piece: &&Piece| piece.opens().is_some();
         let left =
             |marking: &Marking| marking.pieces.iter().filter(opening).count() - marking.pairs.len();
         earlier.iter().map(left).sum::<usize>() as isize
     }
 
-    /// The place of a bracket too many.
-    pub(in super::super) fn misread_deep_place(self, text: &Text, place: usize) -> usize {
+    /// How many of the brackets open the piece with this index closes: as many as its pair has, which are given.
+    pub(in super::super) fn misread_closed(
+        self,
+        marking: &Marking,
+        index: usize,
+        open: isize,
+        right: isize,
+    ) -> isize {
+        let of_image = || {
+            marking
+                .images
+                .iter()
+                .any(|image| image.pair.closing == index)
+        };
+        match (self.wrong, marking.pieces[index].kind) {
+            (Some(Wrong::PairedStayOpen), PieceKind::Closing) => 0,
+            (Some(Wrong::UnpairedCloses), PieceKind::Closing) => 1,
+            (Some(Wrong::LinkClosesAll), PieceKind::Tail) => open,
+            (Some(Wrong::ImageStaysOpen), PieceKind::Closing) if of_image() => 0,
+            _ => right,
+        }
+    }
+
+    /// The place of a bracket too many, which the piece opens.
+    pub(in super::super) fn misread_deep_place(
+        self,
+        text: &Text,
+        piece: Piece,
+        place: usize,
+    ) -> usize {
         match self.wrong {
             Some(Wrong::DeepPlaceFromParagraph) => place - text.place(0),
             Some(Wrong::DeepPlaceInCharacters) => in_characters(text, place as u32) as usize,
+            Some(Wrong::DeepPlaceAtBang) => text.place(piece.from),
             _ => place,
         }
     }

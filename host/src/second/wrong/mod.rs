@@ -2,10 +2,12 @@
 //! person might: a [`Wrong`] is a switch, consulted where the rule stands. Where more than a yes or
 //! no is wanted, the rooms here answer: as the rule says, but for the wrong readings they name.
 
+mod alt;
 mod answers;
 mod conflicts;
 mod definitions;
 mod folding;
+mod images;
 mod labels;
 mod lines;
 mod marking;
@@ -16,7 +18,7 @@ mod sheets;
 mod switches;
 mod text;
 
-pub use parameters::{Gap, IllFormed, Purpose, Spot, Within, Written};
+pub use parameters::{Gap, Held, IllFormed, Purpose, Spot, Within, Written};
 pub use switches::Wrong;
 
 /// Who reads: by the rules, or with one of them misread.

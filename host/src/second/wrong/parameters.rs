@@ -1,6 +1,7 @@
 //! What the switches have as parameters, and every switch that has one with each of them.
 
 use super::super::answers::number;
+use super::super::rows::kind;
 use super::super::source::Origin;
 use super::folding::LATER;
 use super::switches::Wrong;
@@ -32,9 +33,19 @@ pub enum Within {
 #[derive(Clone, Copy, Debug, PartialEq, Eq)]
 pub enum Written {
     Text,
+    /// The text of an image's A.
+    Alt,
     Code,
     Title,
     Destination,
+}
+
+/// What an image's description can hold.
+#[derive(Clone, Copy, Debug, PartialEq, Eq)]
+pub enum Held {
+    Code,
+    Link,
+    Image,
 }
 
 /// Where a character stands in a label.
@@ -81,6 +92,7 @@ pub(super) fn all() -> Vec<Wrong> {
     let mut all = escapes();
     all.extend(spaces());
     all.extend(written_bytes());
+    all.extend(images());
     all.extend(['\t', '\n', ' '].map(Wrong::NoLabelSpace));
     all.extend(NO_SPACES.map(Wrong::LabelSpaceToo));
     all.extend(NO_SPACES.map(Wrong::TrimmedToo));
@@ -106,7 +118,12 @@ fn escapes() -> Vec<Wrong> {
         Within::Bare,
         Within::Title,
     ];
-    let written = [Written::Text, Written::Title, Written::Destination];
+    let written = [
+        Written::Text,
+        Written::Alt,
+        Written::Title,
+        Written::Destination,
+    ];
     let mut all: Vec<Wrong> = note_characters('\u{7f}').map(Wrong::EscapeOf).collect();
     all.extend(within.map(Wrong::EscapeIgnored));
     all.extend(within.map(Wrong::EscapesOverlap));
@@ -137,13 +154,24 @@ fn spaces() -> Vec<Wrong> {
 /// Of the bytes past 127, those that well-formed text has.
 fn written_bytes() -> Vec<Wrong> {
     let mut all = Vec::new();
-    for written in [Written::Text, Written::Code, Written::Title] {
+    for written in [Written::Text, Written::Alt, Written::Code, Written::Title] {
         all.extend(['&', '<', '>', '"'].map(|raw| Wrong::Unescaped(written, raw)));
     }
-    all.extend([Written::Text, Written::Title].map(Wrong::LineFeedSpaced));
+    all.extend([Written::Text, Written::Alt, Written::Title].map(Wrong::LineFeedSpaced));
     let ascii = note_characters('\u{7f}').filter(|character| *character != '\n');
     all.extend(ascii.map(|character| Wrong::HrefOf(character as u8)));
     all.extend((0x80..=0xbf).chain(0xc2..=0xf4).map(Wrong::HrefOf));
+    all
+}
+
+/// Which tails make images, what of a description stands in A, and titles of links and images.
+fn images() -> Vec<Wrong> {
+    let tails = [kind::INLINE, kind::FULL, kind::COLLAPSED, kind::SHORTCUT];
+    let held = [Held::Code, Held::Link, Held::Image];
+    let mut all: Vec<Wrong> = tails.map(Wrong::NoImage).into();
+    all.extend(held.map(Wrong::TagsInAlt));
+    all.extend(held.map(Wrong::LeftOutOfAlt));
+    all.extend([Held::Link, Held::Image].map(Wrong::EmptyTitleWritten));
     all
 }
 
@@ -165,6 +193,7 @@ fn folding() -> Vec<Wrong> {
     ];
     let written = [
         Written::Text,
+        Written::Alt,
         Written::Code,
         Written::Title,
         Written::Destination,

@@ -22,9 +22,12 @@ impl Reader {
 
     /// A span row of a paragraph as it is.
     pub(in super::super) fn misread_span_row(self, mut row: SpanRow, text: &Text) -> SpanRow {
-        let [kind, start, end, text_start, text_end, ..] = row;
+        let [kind, start, end, text_start, text_end, definition, ..] = row;
         let first = text.place(0) as u32;
         let places = 1..5;
+        if kind >= kind::INLINE_IMAGE {
+            self.misread_image_row(&mut row);
+        }
         match (self.wrong, kind) {
             (Some(Wrong::EndsInclusive), _) => row[2] -= 1,
             (Some(Wrong::PlacesInCharacters), _) => {
@@ -40,11 +43,11 @@ impl Reader {
                 (row[3], row[4]) = (text_start - 1, text_end + 1);
             }
             (Some(Wrong::SpanWithoutTail), kind::INLINE..) => row[2] = text_end + 1,
-            (Some(Wrong::KindsSwapped), kind::COLLAPSED..) => {
+            (Some(Wrong::KindsSwapped), kind::COLLAPSED | kind::SHORTCUT) => {
                 row[0] = kind::COLLAPSED + kind::SHORTCUT - kind;
             }
-            (Some(Wrong::NumberFromZero), kind::FULL..) => row[5] -= 1,
-            (Some(Wrong::ReferenceWithoutTarget), kind::FULL..) => row[SPAN_TARGET].fill(0),
+            (Some(Wrong::NumberFromZero), _) if definition > 0 => row[5] -= 1,
+            (Some(Wrong::ReferenceWithoutTarget), _) if definition > 0 => row[SPAN_TARGET].fill(0),
             _ => self.misread_target(&mut row[SPAN_TARGET]),
         }
         row

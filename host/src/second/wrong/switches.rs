@@ -2,7 +2,7 @@
 
 use super::super::answers::number;
 use super::super::source::Origin;
-use super::parameters::{self, Gap, IllFormed, Purpose, Spot, Within, Written};
+use super::parameters::{self, Gap, Held, IllFormed, Purpose, Spot, Within, Written};
 
 /// The switches without a parameter are named one by one; [`Wrong::all`] adds those with one.
 macro_rules! switches {
@@ -29,6 +29,14 @@ macro_rules! switches {
             LineFeedSpaced(Written),
             /// The byte stays in an href exactly when it should not.
             HrefOf(u8),
+            /// An empty title of one has an attribute.
+            EmptyTitleWritten(Held),
+            /// There is no image with the tail of a link of this kind.
+            NoImage(u32),
+            /// In A it has its tags.
+            TagsInAlt(Held),
+            /// In A there is nothing of it.
+            LeftOutOfAlt(Held),
             /// The character is no space in a comparison of labels.
             NoLabelSpace(char),
             /// The character is a space too in a comparison of labels.
@@ -348,6 +356,8 @@ switches! {
     NoLinkNoPair,
     LinksNest,
     OuterLinkKept,
+    /// A link bars only the pair next around it.
+    NearLinkBars,
     /// A tail is read on past its paragraph.
     TailPastParagraph,
     /// Only definitions that stand before the paragraph are seen.
@@ -364,6 +374,32 @@ switches! {
     TextUnchecked,
     BlankCollapses,
 
+    // Images.
+    /// `!` is plain wherever it stands.
+    ImagesIgnored,
+    /// `[` opens an image after an escaped `!` too.
+    EscapedBangOpens,
+    /// `!\[` opens an image.
+    EscapedBracketOpens,
+    /// `! [` opens an image.
+    SpacedBracketOpens,
+    /// Each `!` before `![` belongs to the opening.
+    BangsOpenTogether,
+    /// After `!!` no image opens.
+    BangsStandTogether,
+    /// `![` counts for no pair and makes none.
+    ImageOpeningsUnpaired,
+    /// A pair that `![` opens is a link.
+    ImageIsLink,
+    /// An image holds no link.
+    LinkBarsImage,
+    /// An image holds no image.
+    ImageBarsImage,
+    /// A link holds no image.
+    ImageBarsLink,
+    /// A link may hold an image that holds a link.
+    ImageHidesLink,
+
     // Brackets open at once.
     OneBracketFewer,
     OneBracketMore,
@@ -376,6 +412,16 @@ switches! {
     /// What a paragraph leaves open stays open in the next.
     OpenCarriedOver,
     LinkClosesAll,
+    /// The place is that of the `!`.
+    DeepPlaceAtBang,
+    /// `![` does not count.
+    LinkOpeningsCounted,
+    /// `![` counts two.
+    ImageOpeningsCountedTwice,
+    /// `[` and `![` are counted apart.
+    SortsCountedApart,
+    /// An image's bracket stays open.
+    ImageStaysOpen,
 
     // Rows.
     RowsByStart,
@@ -399,6 +445,26 @@ switches! {
     EmptyDestinationAbsent,
     /// An absent title is empty, at the destination's end.
     AbsentTitleAtEnd,
+
+    // Rows of images.
+    /// An image's span starts at its `[`.
+    ImageFromBracket,
+    /// An image's text starts with its `[`.
+    ImageTextFromBracket,
+    /// 2 to 5.
+    ImageKindsAsLinks,
+    /// 7 to 10.
+    ImageKindsOneMore,
+    /// 6 shortcut, 7 collapsed, 8 full, 9 inline.
+    ImageKindsBackwards,
+    ImagesWithoutRows,
+    /// A code span in an image's description has no row.
+    CodeInImageLeftOut,
+    LinkInImageLeftOut,
+    ImageInLinkLeftOut,
+    ImageInImageLeftOut,
+    /// Links and code spans first, then images.
+    ImagesAfterLinks,
 
     // Lines.
     /// A line is the LFs before it, and no more.
@@ -427,7 +493,6 @@ switches! {
     // The page.
     NoLineFeedAfterParagraph,
     LinkTextAsItStands,
-    EmptyTitleWritten,
     ApostropheEscaped,
     AmpersandByNumber,
     SmallHexadecimal,
@@ -444,6 +509,38 @@ switches! {
     CodeJudgedFirst,
     /// A tab counts as a space.
     CodeTabDropped,
+
+    // Images on the page.
+    /// The `!` is left before an image.
+    BangBeforeImage,
+    /// Where `![` opens no image only its `[` is left.
+    UnusedBangDropped,
+    /// The description stands after the image.
+    DescriptionOnPage,
+    /// The source is written as text is.
+    SourceAsText,
+    /// The source of an image whose definition is the sheet's is taken from the note.
+    SourceFromNote,
+    ImageTitleLeftOut,
+    NoSlash,
+    SlashUnspaced,
+    AltMissing,
+    /// An empty A has no attribute.
+    EmptyAltMissing,
+    AltAfterTitle,
+    /// A is what stands between the brackets.
+    AltAsItStands,
+    AltTrimmed,
+    /// A ends at the first LF.
+    AltOnOneLine,
+    /// The four characters are replaced twice in A.
+    AltEscapedAgain,
+    /// An inner image's A is replaced again.
+    InnerAltEscapedAgain,
+    /// What looks like a tag is left out of A.
+    PointedLeftOutOfAlt,
+    /// A code span keeps its LFs and all its spaces in A.
+    CodeInAltAsItStands,
 
     // The enquiry.
     /// The enquiry gives refusal 4 too.
