@@ -1,9 +1,10 @@
-//! The examples of the sources and of the standard, each a note and the page it stands for.
+//! The examples of the sources and of the standard, and notes that another reader read, each a note and the page it stands for.
 
 use crate::json::{self, Value};
 
 const SOURCES: &str = include_str!("../tests/data/examples.json");
 const STANDARD: &str = include_str!("../tests/data/gfm-0.29-examples.json");
+const PICTURES: &str = include_str!("../tests/data/cmark-gfm-images.json");
 
 /// The requests of document 02 that are in force.
 pub const IN_FORCE: [usize; 7] = [1, 2, 3, 4, 5, 8, 9];
@@ -59,6 +60,13 @@ pub fn standard_examples() -> Vec<Example> {
     list(STANDARD).iter().map(standard_example).collect()
 }
 
+/// Notes of images by chance, each with the page that cmark-gfm 0.29.0.gfm.6 gave. They hold only what both read by the same
+/// rules, and one code span at most, since it misses some that follow a run of backticks which nothing closes.
+pub fn pictures() -> Vec<Example> {
+    let numbered = list(PICTURES).into_iter().enumerate();
+    numbered.map(|(k, value)| picture(k, &value)).collect()
+}
+
 fn list(file: &str) -> Vec<Value> {
     let file = json::parse(file).expect("the file of examples is JSON");
     let list = file.as_array().expect("the file of examples is a list");
@@ -91,6 +99,16 @@ fn standard_example(value: &Value) -> Example {
         needs: needs.unwrap_or_default(),
         note: string(value, "markdown"),
         page: with_last_line_feed(string(value, "html")),
+    }
+}
+
+fn picture(k: usize, value: &Value) -> Example {
+    Example {
+        name: format!("picture {k}"),
+        status: "waiting".to_string(),
+        needs: vec![5],
+        note: string(value, "markdown"),
+        page: string(value, "html"),
     }
 }
 

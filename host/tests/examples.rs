@@ -1,7 +1,7 @@
-//! The examples of the sources and of the standard against the second reader.
+//! The examples of the sources and of the standard, and another reader's pages, against the second reader.
 
 use host::second::{self, RenderAnswer};
-use host::sources::{examples, standard_examples, Example, UNMET};
+use host::sources::{examples, pictures, standard_examples, Example, UNMET};
 
 /// The page writer with more lent than any note needs.
 fn render(note: &str, sheet: &str, release: bool) -> RenderAnswer {
@@ -71,6 +71,16 @@ fn pages_of_the_standards_examples() {
     let mut examples = standard_examples();
     examples.retain(Example::is_met);
     check_pages(&examples);
+}
+
+/// What another reader wrote for images by chance, inside each other, in links and around them.
+#[test]
+fn pages_of_another_reader() {
+    let pictures = pictures();
+    assert_eq!(pictures.len(), 800);
+    let shows = |e: &&Example| e.page.contains("<img");
+    assert_eq!(pictures.iter().filter(shows).count(), 639);
+    check_pages(&pictures);
 }
 
 /// The names of the examples in scope that a request is for, those of the sources and then those of the standard.
