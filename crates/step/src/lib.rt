@@ -142,8 +142,7 @@ pub fn close_pair<'a>(
     ensures { λ r. ⌜ Closes (now (note .entry)) start (now (p .entry)) (labelsIn (texts (now (note .entry)) (now (sheet .entry))) (now (definitions .entry)) count) (definitionsFrom (now (definitions .entry)) 0 count) opening w (now (spans .entry)) r (now (spans .exit)) ⌝ }
     ensures { λ r. ⌜ Prepared (now (p .entry)) (r .at) (now (marks .exit)) ⌝ }
 {
-    let at = w.at;
-    let next = at + 1;
+    let next = w.at + 1;
     let mut v = w;
     v.at = next;
     v.depth = w.depth - 1;
@@ -152,10 +151,10 @@ pub fn close_pair<'a>(
         return v;
     }
     let from = link::text_from(image, opening);
-    let Ending::With(t) = tail_at(p, from, at, note, sheet, definitions, count, marks) else {
+    let Ending::With(t) = tail_at(p, from, w.at, note, sheet, definitions, count, marks) else {
         return v;
     };
-    let row = link::pair_row(start, image, opening, at, t, definitions, count);
+    let row = link::pair_row(start, image, opening, w.at, t, definitions, count);
     span::store(spans, w.row, row, line);
     v.at = next + t.length;
     v.last = last_link(image, w.last, opening);
