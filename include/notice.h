@@ -73,7 +73,8 @@
  * made of short words to be slow: repeated, one after the other, around a text as deep as brackets may go, between what opens and
  * closes links and images, and in rising runs. The slowest took 50 ns a byte, 1.6 ms, and the slowest enquiry, for a label of 990
  * blanks, 51 ns a byte of the two texts. None of 59,306 sheets beside an empty note took longer. The search counts 150 ns a byte, 5 ms
- * for the longest note, as the most that a call may take. A page takes some half a microsecond more, in which its table is cleared.
+ * for the longest note, as the most that a call may take. The page of a note of 13 bytes took 1.3 us, of which clearing its table is
+ * some 0.6.
  *
  * What costs more is lookup, since each reference is looked up among the definitions of both texts one by one. 500 definitions and as
  * many references to them as fit took 9 ms; of notes made to be slow, some 1,600 definitions and 1,500 references whose labels differ

@@ -1,6 +1,6 @@
 //! Images on the page (document 02, request 5): `<img src="D" alt="A" title="T" />`.
 
-use super::page;
+use super::{html_of, page};
 use host::second::{self, SPAN_ROW_WIDTH};
 
 /// The page of an image with this A, and what follows it in its tag.
@@ -55,13 +55,7 @@ fn links_and_images_in_alt() {
 fn every_character_in_alt() {
     for byte in (1..128_u8).filter(|byte| !matches!(*byte, 13 | b'[' | b']' | b'`' | b'\\')) {
         let character = char::from(byte);
-        let html = match character {
-            '&' => "&amp;".to_string(),
-            '<' => "&lt;".to_string(),
-            '>' => "&gt;".to_string(),
-            '"' => "&quot;".to_string(),
-            other => other.to_string(),
-        };
+        let html = html_of(character);
         check_alt(&format!("{character}."), &format!("{html}."));
         let backslash = if character.is_ascii_punctuation() {
             ""

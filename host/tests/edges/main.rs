@@ -38,6 +38,17 @@ fn resolve(note: &[u8], label: &[u8]) -> ResolveAnswer {
     second::resolve(note, b"", label)
 }
 
+/// A character on the page: four are replaced.
+fn html_of(character: char) -> String {
+    match character {
+        '&' => "&amp;".to_string(),
+        '<' => "&lt;".to_string(),
+        '>' => "&gt;".to_string(),
+        '"' => "&quot;".to_string(),
+        other => other.to_string(),
+    }
+}
+
 fn page(note: &str) -> String {
     let answer = render(note.as_bytes());
     assert_eq!(answer.number, 0, "{note:?}");

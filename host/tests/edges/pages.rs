@@ -1,6 +1,6 @@
 //! The page.
 
-use super::page;
+use super::{html_of, page};
 
 #[test]
 fn text_of_the_page() {
@@ -18,13 +18,7 @@ fn text_of_the_page() {
     // Every escape, and every other backslash.
     for byte in (1..128_u8).filter(|byte| *byte != 13) {
         let character = char::from(byte);
-        let html = match character {
-            '&' => "&amp;".to_string(),
-            '<' => "&lt;".to_string(),
-            '>' => "&gt;".to_string(),
-            '"' => "&quot;".to_string(),
-            other => other.to_string(),
-        };
+        let html = html_of(character);
         let escaped = matches!(byte, 33..=47 | 58..=64 | 91..=96 | 123..=126);
         let backslash = if escaped { "" } else { "\\" };
         assert_eq!(
