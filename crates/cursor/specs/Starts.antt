@@ -8,12 +8,13 @@ use mathlib.Core.Bool.{Bool, true, cond}
 use lib.ListN.{length, getD, getElem?}
 use lib.Dec.{eqb, ltb}
 use Rattle.scan.specs.Member.{In}
+use Rattle.text.specs.Utf8.{noteLimit}
 use Rattle.span.specs.Row.{rowAt}
 use Rattle.page.specs.Reading.{isImage, rowStart, textStart, firstRow, starts, describes, tagged}
 
 -- its places: one for each byte that a note may have
 abbrev pub places : ℕ
-places = 32_768
+places = noteLimit
 
 -- ---- its entries: 0 where no row starts; else the number of the row, from 1, and more if no tags are written for it
 abbrev pub free : ℕ → Bool

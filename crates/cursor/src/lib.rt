@@ -10,10 +10,10 @@ ghost use Rattle.cursor.specs.Starts.{places, free, entryOf, tagsIn, ind
 use span::Span;
 
 // A place for each byte that a note may have.
-pub const PLACES: usize = 32768;
+pub const PLACES: usize = text::NOTE_LIMIT;
 
 // What is added to an entry of the table where no tags are written for its row.
-const SILENT: u16 = 32768;
+const SILENT: u16 = PLACES as u16;
 
 // ---- the table of places
 // The entry of row `k`, with tags or without.

@@ -22,7 +22,7 @@ pub enum Reading {
 }
 
 // A mark for each byte of the longest note, and one more.
-const MARKS: usize = 32769;
+const MARKS: usize = text::NOTE_LIMIT + 1;
 
 // The answer after refusals 1 to 3 and 9: counts the spans, and then stores their rows or refuses.
 fn answer_spans<'a>(
