@@ -62,31 +62,31 @@
  *
  * Cost
  *
- * Stack: a call takes less than 52 KiB for itself, and notice_render less than 120 KiB, whatever the texts (49,688 bytes at most
- * for notice_read, 115,400 for notice_render, 3,544 for notice_resolve, 3,160 for notice_same_label; 2,656 of each are the table of
- * folding, 65,536 of notice_render's the table of the places where links, images and code spans start). It was measured on the notes
- * of the benchmark, beside their sheets and as their own sheets, by running each entry on a stack that was marked before; the
- * library's tests do so again.
+ * Stack: a call takes less than 272 KiB for itself, and notice_render less than 328 KiB, whatever the texts (272,792 bytes at most
+ * for notice_read, 330,248 for notice_render, 3,544 for notice_resolve, 3,160 for notice_same_label). Of notice_read's and
+ * notice_render's 65,538 are the list of the note's paragraphs, 51,884 an index of over 256 definitions, and up to 87,376 more are
+ * taken while it is built; a note of at most 4,096 bytes and a few definitions takes less. 65,536 of notice_render's are the table of
+ * the places where links, images and code spans start, and 2,656 of each entry's the table of folding. It was measured on the notes of
+ * the benchmark, beside their sheets and as their own sheets, by running each entry on a stack that was marked before; the library's
+ * tests do so again.
  *
- * Time: but for one thing, reading costs what the lengths of the note and the sheet cost, and the page its own length besides. It was
- * measured on virtual cores of an AMD EPYC and an Intel Xeon (x86-64), with 287,219 notes of the longest size beside an empty sheet,
- * made of short words to be slow: repeated, one after the other, around a text as deep as brackets may go, between what opens and
- * closes links and images, and in rising runs. The slowest took 50 ns a byte, 1.6 ms, and the slowest enquiry, for a label of 990
- * blanks, 51 ns a byte of the two texts. None of 59,306 sheets beside an empty note took longer. The search counts 150 ns a byte, 5 ms
- * for the longest note, as the most that a call may take. The page of a note of 13 bytes took 1.3 us, of which clearing its table is
- * some 0.6.
+ * Time: reading costs what the lengths of the note and the sheet cost, and the page its own length besides. It was measured on virtual
+ * cores of an AMD EPYC (x86-64), with release no, with 367,596 notes of the longest size beside an empty sheet, made of short words to be
+ * slow: repeated, alone and after definitions, one after the other, around a text as deep as brackets may go, between what opens and
+ * closes links and images, and in rising runs. The slowest took 95 ns a byte, 3.1 ms, with other work on the machine, but for two
+ * single times of 190 where the other entry took 60 on the same note. No sheet beside an empty note was among the ten slowest. The slowest enquiry, for a label of 990 blanks, took 51 ns a byte of the two texts on an Intel Xeon,
+ * before there was an index, which it does not use. The search counts 150 ns a byte, 5 ms for the longest note, as the most that a call
+ * may take.
  *
- * What costs more is lookup, since each reference is looked up among the definitions of both texts one by one. 500 definitions and as
- * many references to them as fit took 9 ms; of notes made to be slow, some 1,600 definitions and 1,500 references whose labels differ
- * only at their ends, and in the case of their letters, took 66 ms on one machine and up to 240 ms on a slower one, the longest that
- * was found for a note alone in ASCII. In Cyrillic letters such notes took twice as long, and with U+00DF and "ss" a little more: 120
- * and 132 ms on a machine where ASCII ones took 58. A note of references beside a sheet of definitions has room for twice as many of
- * each, and took three to five times as long, up to 0.6 s where a note alone took 0.1 to 0.16 s.
+ * Lookup is no exception: where a call looks up over eight labels among over 16 definitions, it builds an index of them once, in which
+ * a label is found by its key and a search by halves. 500 definitions and as many references to them as fit took 0.4 ms. Texts of
+ * up to 10,922 definitions, the most that two can have, with labels chosen to be slow, as with one key for all, took at most some 110
+ * ns a byte of the two texts. With release yes each definition is looked up too, by the index: definitions alone took at most
+ * 2.4 times as long as with no. notice_resolve looks up one label, and compares it with one definition after the other.
  *
- * All these times are with release no. With yes each definition is looked up too, among those before it one by one, so that the
- * time for it grows with the square of the number of definitions: texts of definitions alone, with labels that start alike, took up
- * to 38 ms on the Xeon, and up to 155 ms with as many in the sheet; on the EPYC 25 and 96 ms, and 36 and 141 ms where their letters
- * differ in case too.
+ * Tables with room to spare save time. Definitions are stored as they are found, and not counted before, where a third as many rows
+ * are lent as the two texts have bytes (10,922 rows for 32,768 bytes in both); spans where as many rows are lent as the note's
+ * paragraphs have "]" and runs of backticks, and their bytes show that fewer than NOTICE_DEPTH brackets can stay open.
  *
  * A comparison of two labels costs what they have in common: labels of 999 characters took 4 ns where they differ in the first, some
  * 50 ns where these are beyond ASCII, and 0.5 to 4 us where they are equal, 1.4 to 9 us in Cyrillic letters, and 17 us for U+00DF with

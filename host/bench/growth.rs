@@ -12,23 +12,16 @@ use crate::ROUNDS;
 
 /// What a note of twice the size may take, in times of the other.
 const MOST: f64 = 2.2;
-/// Their times grow with the definitions as well: each reference is looked up among them, and for a release each
-/// definition.
-const EXCEPTED: [&str; 7] = [
-    "references",
-    "references_sheet",
-    "definitions_release",
-    "references_latin",
-    "references_case",
-    "references_cyrillic",
-    "references_cyrillic_case",
-];
+/// The same where labels are alike: a lookup among twice as many takes a step more.
+const MOST_OF_LABELS: f64 = 2.4;
+const OF_LABELS: [&str; 2] = ["like_labels", "colliding_labels"];
 const SIZES: [usize; 3] = [LONGEST_NOTE / 4, LONGEST_NOTE / 2, LONGEST_NOTE];
 
 /// Prints the growth of the notes that are chosen, and fails where one grows too fast.
 pub fn run(chosen: impl Fn(&BenchNote) -> bool) -> ExitCode {
     let notes = SIZES.map(|size| bench_notes::of_size(size));
-    println!("Times the time of half the size, the best of many rounds. At most {MOST}.\n");
+    println!("Times the time of half the size, the best of many rounds. At most {MOST},");
+    println!("and {MOST_OF_LABELS} of {}.\n", OF_LABELS.join(" and "));
     println!("| note | reader, half / quarter | whole / half | page writer, half / quarter | whole / half |");
     println!("|---|--:|--:|--:|--:|");
     let mut good = true;
@@ -38,20 +31,30 @@ pub fn run(chosen: impl Fn(&BenchNote) -> bool) -> ExitCode {
             let grown = growth(sizes);
             let cells = grown.map(|times| format!("{times:.2}"));
             println!("| {} | {} |", sizes[0].name, cells.join(" | "));
-            let excepted = EXCEPTED.contains(&sizes[0].name);
-            good &= excepted || grown.iter().all(|times| *times <= MOST);
+            let most = most(sizes[0]);
+            good &= grown.iter().all(|times| *times <= most);
         }
     }
     if good {
         return ExitCode::SUCCESS;
     }
-    println!("\nOver {MOST}: grows too fast.");
+    println!("\nOver that: grows too fast.");
     ExitCode::FAILURE
+}
+
+/// What a step of a note may be.
+fn most(note: &BenchNote) -> f64 {
+    if OF_LABELS.contains(&note.name) {
+        return MOST_OF_LABELS;
+    }
+    MOST
 }
 
 /// The reader's two steps, and the page writer's.
 fn growth(notes: [&BenchNote; 3]) -> [f64; 4] {
     let lent = notes.map(Lent::for_note);
+    let most = most(notes[0]);
+    let good = |times: [f64; 3]| steps(times).iter().all(|step| *step <= most);
     let reader = best_of_tries(|| times(notes, lent.clone(), Lent::read), good);
     let page_writer = best_of_tries(|| times(notes, lent.clone(), Lent::render), good);
     let [first, second] = steps(reader);
@@ -61,11 +64,6 @@ fn growth(notes: [&BenchNote; 3]) -> [f64; 4] {
 
 fn steps(times: [f64; 3]) -> [f64; 2] {
     [times[1] / times[0], times[2] / times[1]]
-}
-
-/// No step is too large.
-fn good(times: [f64; 3]) -> bool {
-    steps(times).iter().all(|step| *step <= MOST)
 }
 
 /// The best times of a call on each of the notes.

@@ -1,8 +1,8 @@
-//! Times the proved reader and page writer on the notes of the benchmark, beside the second reader
+//! Times the proved reader and page writer on the notes of the benchmark, beside the quick reader, the second reader
 //! and, where they are installed, cmark-gfm and md4c. `docs/BENCHMARK.md` says what is measured.
 //!
 //! `cargo run --release --offline --manifest-path host/Cargo.toml --bin bench -- [--growth] [NOTE...]`
-//! `cargo run --release --offline --manifest-path host/Cargo.toml --bin bench -- --labels | --paragraphs`
+//! `cargo run --release --offline --manifest-path host/Cargo.toml --bin bench -- --labels | --paragraphs | --ratios`
 
 mod comparison;
 mod growth;
@@ -11,12 +11,14 @@ mod libraries;
 mod measure;
 mod ours;
 mod paragraphs;
+mod ratios;
 mod table;
 
 use std::process::ExitCode;
 use std::time::Duration;
 
 use host::generate::bench_notes::{self, BenchNote};
+use host::quick;
 use libraries::{CmarkGfm, Md4c};
 use measure::{best_times, Candidate, Rounds};
 use ours::Lent;
@@ -35,6 +37,9 @@ fn main() -> ExitCode {
     }
     if names == ["--paragraphs"] {
         return paragraphs::run();
+    }
+    if names == ["--ratios"] {
+        return ratios::run();
     }
     let growth = names.first().is_some_and(|word| word == "--growth");
     if growth {
@@ -73,21 +78,24 @@ fn time(
 ) -> Line {
     let one_text = &ours::in_one_text(note);
     let answer = lent.answer();
-    let mut for_reader = lent.clone();
+    let [mut for_reader, mut for_quick] = [lent.clone(), lent.clone()];
+    let mut quick = quick::Reader::default();
     let mut candidates = [
         Some(Candidate::new(|| for_reader.read(note))),
         Some(Candidate::new(|| lent.render(note))),
+        Some(Candidate::new(|| for_quick.read_quickly(&mut quick, note))),
         Some(Candidate::new(|| ours::second(note))),
         cmark_gfm.map(|library| Candidate::new(|| library.page(one_text))),
         md4c.map(|library| Candidate::new(|| library.page(one_text))),
     ];
-    let [reader, page_writer, second, cmark_gfm, md4c] = best_times(&mut candidates, ROUNDS);
+    let [reader, page_writer, quick, second, cmark_gfm, md4c] = best_times(&mut candidates, ROUNDS);
     Line {
         name: note.name,
         bytes: note.bytes.len() + note.sheet.len(),
         answer,
         reader,
         page_writer,
+        quick,
         second,
         cmark_gfm,
         md4c,

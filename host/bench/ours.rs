@@ -1,12 +1,14 @@
-//! The proved entries and the second reader, as the benchmark calls them.
+//! The proved entries, the quick reader and the second one, as the benchmark calls them.
 
-use host::entries;
-use host::generate::bench_notes::BenchNote;
-use host::second::{self, RenderAnswer};
 use std::hint::black_box;
 
-/// Tables and a page of just the size that a note and its sheet need. They are lent once and used again
-/// by every call, with what the call before left in them: an entry trusts nothing in them.
+use host::entries::{self, Reading, MOST_DEFINITION_ROWS, MOST_SPAN_ROWS};
+use host::generate::bench_notes::BenchNote;
+use host::quick;
+use host::second::{self, RenderAnswer, DEFINITION_ROW_WIDTH, SPAN_ROW_WIDTH};
+
+/// Tables with room for any note and sheet, as of a caller who does not know what they need, and a page. They are lent once
+/// and used again by every call, with what the call before left in them: an entry trusts nothing in them.
 #[derive(Clone)]
 pub struct Lent {
     definitions: Vec<u32>,
@@ -18,10 +20,9 @@ pub struct Lent {
 impl Lent {
     pub fn for_note(note: &BenchNote) -> Lent {
         let wanted = second(note);
-        let definitions = wanted.definition_rows.as_ref().map_or(0, Vec::len);
         Lent {
-            definitions: vec![0; definitions * second::DEFINITION_ROW_WIDTH],
-            spans: vec![0; wanted.span_count * second::SPAN_ROW_WIDTH],
+            definitions: vec![0; MOST_DEFINITION_ROWS * DEFINITION_ROW_WIDTH],
+            spans: vec![0; MOST_SPAN_ROWS * SPAN_ROW_WIDTH],
             page: vec![0; wanted.page_length],
             wanted,
         }
@@ -37,15 +38,20 @@ impl Lent {
         self.wanted.number
     }
 
-    /// Whether the library answers as the second reader does: other figures would mean nothing.
+    /// Whether the library and the quick reader answer as the second reader does: other figures would mean nothing.
     pub fn check(&mut self, note: &BenchNote) -> Result<(), String> {
         let read = self.read(note);
-        self.check_rows()?;
+        self.check_rows("the reader")?;
+        let quick = self.read_quickly(&mut quick::Reader::default(), note);
+        self.check_rows("the quick reader")?;
         let rendered = self.render(note);
-        self.check_rows()?;
+        self.check_rows("the page writer")?;
         let wanted = &self.wanted;
-        if read.number != wanted.number || rendered.number != wanted.number {
-            return Err(format!("{read:?}, {rendered:?}, wanted {}", wanted.number));
+        if read.number != wanted.number || quick != read || rendered.number != wanted.number {
+            return Err(format!(
+                "{read:?}, {quick:?}, {rendered:?}, wanted {}",
+                wanted.number
+            ));
         }
         if self.page != wanted.page.as_deref().unwrap_or_default() {
             return Err("the page differs from the second reader's".to_string());
@@ -53,17 +59,32 @@ impl Lent {
         Ok(())
     }
 
-    fn check_rows(&self) -> Result<(), String> {
-        let definitions = self.wanted.definition_rows.clone().unwrap_or_default();
-        let spans = self.wanted.span_rows.clone().unwrap_or_default();
-        if self.definitions != definitions.concat() || self.spans != spans.concat() {
-            return Err("rows differ from the second reader's".to_string());
+    /// Whether the tables are as the second reader leaves them; and clears them.
+    fn check_rows(&mut self, name: &str) -> Result<(), String> {
+        let [definitions, spans] = [&mut self.definitions, &mut self.spans].map(|table| {
+            let empty = vec![0; table.len()];
+            std::mem::replace(table, empty)
+        });
+        let wanted = self.wanted.definition_table(&self.definitions);
+        if definitions != wanted || spans != self.wanted.span_table(&self.spans) {
+            return Err(format!("rows of {name} differ from the second reader's"));
         }
         Ok(())
     }
 
-    pub fn read(&mut self, note: &BenchNote) -> entries::Reading {
+    pub fn read(&mut self, note: &BenchNote) -> Reading {
         entries::read(
+            black_box(&note.bytes),
+            black_box(&note.sheet),
+            note.release,
+            &mut self.definitions,
+            &mut self.spans,
+        )
+    }
+
+    /// The same by the quick reader.
+    pub fn read_quickly(&mut self, reader: &mut quick::Reader, note: &BenchNote) -> Reading {
+        reader.read(
             black_box(&note.bytes),
             black_box(&note.sheet),
             note.release,

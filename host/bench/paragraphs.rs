@@ -6,9 +6,8 @@ use std::process::ExitCode;
 use host::generate::bench_notes::BenchNote;
 use host::second::LONGEST_NOTE;
 
-use crate::measure::{best_times, Candidate};
 use crate::ours::Lent;
-use crate::ROUNDS;
+use crate::ratios::two_times;
 
 /// A paragraph, and a pair of brackets that is no link.
 const WORDS: [&[u8]; 2] = [b"a\n\n", b"[a] "];
@@ -40,10 +39,6 @@ fn times() -> [f64; 2] {
         release: false,
     });
     let [mut first, mut second] = [0, 1].map(|place| Lent::for_note(&notes[place]));
-    let mut candidates = [
-        Some(Candidate::new(|| first.read(&notes[0]))),
-        Some(Candidate::new(|| second.read(&notes[1]))),
-    ];
-    let times = best_times(&mut candidates, ROUNDS);
-    [0, 1].map(|place| times[place].unwrap_or(f64::INFINITY) / counts[place] as f64)
+    let times = two_times(|| first.read(&notes[0]), || second.read(&notes[1]));
+    [0, 1].map(|place| times[place] / counts[place] as f64)
 }

@@ -31,6 +31,30 @@ pub fn repeated(word: &[u8]) -> Shape {
     Shape::of_note(show(word), note)
 }
 
+/// How many definitions stand in front of a word.
+const DEFINITIONS: usize = 40;
+
+/// A word over and over, after definitions whose labels are made of its bytes.
+pub fn defined(word: &[u8]) -> Shape {
+    let labels = (0..DEFINITIONS).map(|place| label_of(word, place));
+    let definitions = labels.flat_map(|label| [b"[", label.as_slice(), b"]:c\n"].concat());
+    let mut note: Vec<u8> = definitions.chain(*b"\n").collect();
+    note.extend(word.repeat((LONGEST_NOTE - note.len()) / word.len()));
+    Shape::of_note(format!("{} after definitions", show(word)), note)
+}
+
+/// A label: the bytes of the word that can stand in one, from each place on, and from the second round on with a number.
+fn label_of(word: &[u8], place: usize) -> Vec<u8> {
+    let turned = word.iter().cycle().skip(place % word.len());
+    let bytes = turned.take(word.len());
+    let bytes = bytes.filter(|byte| !b"[]\\\n".contains(byte));
+    let mut label: Vec<u8> = bytes.copied().collect();
+    if place >= word.len() || label.trim_ascii().is_empty() {
+        label.extend(place.to_string().bytes());
+    }
+    label
+}
+
 /// A definition over and over, of which two words are parts.
 pub fn definitions(label: &[u8], rest: &[u8]) -> Shape {
     repeated(&[b"[", label, b"]:", rest, b"\n"].concat())

@@ -1,7 +1,7 @@
 //! Looks for slow notes and sheets: short words, put together in a few ways up to the longest, through
 //! the proved reader and page writer, and labels that are hard to compare through the enquiry. Prints the
-//! slowest and fails where one takes longer than it may. All of it for no release: for one each definition is
-//! looked up among the others. `docs/BENCHMARK.md` says what is measured.
+//! slowest and fails where one takes longer than it may. All of it is for no release. `docs/BENCHMARK.md` says
+//! what is measured.
 //!
 //! `cargo run --release --offline --manifest-path host/Cargo.toml --bin slow_notes [SECONDS]`
 
@@ -13,10 +13,10 @@ mod slowest;
 use std::process::ExitCode;
 use std::time::{Duration, Instant};
 
-use host::entries;
+use host::entries::{self, MOST_DEFINITION_ROWS, MOST_SPAN_ROWS};
 use host::second::{DEFINITION_ROW_WIDTH, LONGEST_NOTE, SPAN_ROW_WIDTH};
 use patterns::Patterns;
-use shapes::{around, definitions, halves, repeated, rising, Shape};
+use shapes::{around, defined, definitions, halves, repeated, rising, Shape};
 use slowest::{Slow, Slowest};
 
 /// What a note or a sheet may take at most, in nanoseconds a byte: 5 ms for the longest one.
@@ -86,12 +86,12 @@ fn main() -> ExitCode {
     ExitCode::SUCCESS
 }
 
-/// Every short pattern, over and over.
+/// Every short pattern, over and over: alone, and after definitions.
 fn in_one_word() -> impl Iterator<Item = Shape> {
     let all =
         Patterns::new(ALL, 3).filter(|pattern| !pattern.iter().all(|byte| MARKS.contains(byte)));
     let patterns = Patterns::new(MARKS, 4).chain(all);
-    patterns.map(|pattern| repeated(&pattern))
+    patterns.flat_map(|pattern| [repeated(&pattern), defined(&pattern)])
 }
 
 /// Two words of up to two bytes: one after the other, and around a text.
@@ -137,12 +137,10 @@ struct Lent {
 }
 
 impl Lent {
-    /// Each definition and each span takes up three bytes or more.
     fn for_any_note() -> Lent {
-        let rows = LONGEST_NOTE / 3 + 1;
         Lent {
-            definitions: vec![0; rows * DEFINITION_ROW_WIDTH],
-            spans: vec![0; rows * SPAN_ROW_WIDTH],
+            definitions: vec![0; MOST_DEFINITION_ROWS * DEFINITION_ROW_WIDTH],
+            spans: vec![0; MOST_SPAN_ROWS * SPAN_ROW_WIDTH],
         }
     }
 

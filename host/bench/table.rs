@@ -8,6 +8,7 @@ pub struct Line {
     pub answer: u32,
     pub reader: Option<f64>,
     pub page_writer: Option<f64>,
+    pub quick: Option<f64>,
     pub second: Option<f64>,
     pub cmark_gfm: Option<f64>,
     pub md4c: Option<f64>,
@@ -21,10 +22,10 @@ pub fn print_libraries(cmark_gfm: bool, md4c: bool) {
 
 pub fn print_head() {
     println!(
-        "| note | bytes | answer | reader | page writer | second reader | cmark-gfm | md4c \
-         | reader / second | page / second | page / cmark-gfm | page / md4c |"
+        "| note | bytes | answer | reader | page writer | quick reader | second reader | cmark-gfm | md4c \
+         | reader / quick | reader / second | page / second | page / cmark-gfm | page / md4c |"
     );
-    println!("|---|--:|--:|--:|--:|--:|--:|--:|--:|--:|--:|--:|");
+    println!("|---|--:|--:|--:|--:|--:|--:|--:|--:|--:|--:|--:|--:|--:|");
 }
 
 pub fn print(line: &Line) {
@@ -38,9 +39,11 @@ pub fn print(line: &Line) {
         line.answer.to_string(),
         per_byte(line.reader),
         per_byte(line.page_writer),
+        per_byte(line.quick),
         per_byte(line.second),
         per_byte(line.cmark_gfm),
         per_byte(line.md4c),
+        ratio(line.reader, line.quick),
         ratio(line.reader, line.second),
         ratio(line.page_writer, line.second),
         ratio(line.page_writer, line.cmark_gfm),

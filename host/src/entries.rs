@@ -47,7 +47,13 @@ pub mod raw {
     }
 }
 
+use crate::second::LONGEST_NOTE;
 use raw::{notice_read, notice_render, notice_resolve, notice_same_label};
+
+/// The most definition rows that two texts can need: `[a]:b` and an LF are the shortest definition, 6 bytes.
+pub const MOST_DEFINITION_ROWS: usize = 2 * (LONGEST_NOTE / 6);
+/// The most span rows that a note can need: `[a]` is the shortest span, 3 bytes.
+pub const MOST_SPAN_ROWS: usize = LONGEST_NOTE / 3;
 
 /// What the reader answers.
 #[derive(Clone, Copy, Debug, PartialEq, Eq)]

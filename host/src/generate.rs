@@ -6,6 +6,7 @@ pub mod chance;
 pub mod grammar;
 pub mod images;
 pub mod long_labels;
+pub mod many_labels;
 pub mod repeats;
 pub mod sheets;
 pub mod spellings;

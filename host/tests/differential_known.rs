@@ -8,13 +8,13 @@ extern crate self as host;
 
 pub use package::{case_folding, cases, json, sources};
 
-/// The library in the second reader's form.
+/// The library in the second reader's form. Its reader and the quick one agree.
 pub mod second {
-    use package::entries;
     pub use package::second::{
         number, DefinitionRow, ReadAnswer, RenderAnswer, ResolveAnswer, SpanRow,
         DEFINITION_ROW_WIDTH, SPAN_ROW_WIDTH,
     };
+    use package::{entries, quick};
     // The second reader itself, for answers that are held against both.
     pub use package::second::{Reader, Wrong};
 
@@ -34,7 +34,14 @@ pub mod second {
     ) -> ReadAnswer {
         let mut definitions = vec![NUMBER; definition_numbers.min(MOST_NUMBERS)];
         let mut spans = vec![NUMBER; span_numbers.min(MOST_NUMBERS)];
+        let [mut own_definitions, mut own_spans] = [definitions.clone(), spans.clone()];
         let answer = entries::read(note, sheet, release, &mut definitions, &mut spans);
+        let mut quick = quick::Reader::default();
+        let own = quick.read(note, sheet, release, &mut own_definitions, &mut own_spans);
+        assert_eq!(
+            (own, own_definitions, own_spans),
+            (answer, definitions.clone(), spans.clone())
+        );
         ReadAnswer {
             number: answer.number,
             value: answer.value as usize,

@@ -7,13 +7,13 @@ use std::ffi::{c_int, c_void};
 use std::hint::black_box;
 use std::ptr::null_mut;
 
-use host::entries;
+use host::entries::{self, MOST_DEFINITION_ROWS, MOST_SPAN_ROWS};
 use host::generate::bench_notes;
 use host::generate::long_labels::{self, Letters};
-use host::second::{DEFINITION_ROW_WIDTH, LONGEST_LABEL, LONGEST_NOTE, SPAN_ROW_WIDTH};
+use host::second::{DEFINITION_ROW_WIDTH, LONGEST_LABEL, SPAN_ROW_WIDTH};
 
 /// What `include/notice.h` promises for a call of the reader, the page writer, the enquiry and the comparison.
-const PROMISED: [usize; 4] = [52 * 1024, 120 * 1024, 52 * 1024, 52 * 1024];
+const PROMISED: [usize; 4] = [272 * 1024, 328 * 1024, 52 * 1024, 52 * 1024];
 /// The table of folding: 1,328 entries of two bytes.
 const TABLE: usize = 2 * 1_328;
 /// The memory of a stack, which has room for more than the promise.
@@ -113,9 +113,8 @@ fn taken_by_labels() -> [usize; 2] {
 
 #[test]
 fn a_call_keeps_to_the_promised_stack() {
-    let rows = LONGEST_NOTE / 3 + 1;
-    let mut defined = vec![0; 2 * rows * DEFINITION_ROW_WIDTH];
-    let mut spans = vec![0; rows * SPAN_ROW_WIDTH];
+    let mut defined = vec![0; MOST_DEFINITION_ROWS * DEFINITION_ROW_WIDTH];
+    let mut spans = vec![0; MOST_SPAN_ROWS * SPAN_ROW_WIDTH];
     let mut page = vec![0; 1 << 20];
     let mut most = [0; 4];
     for (note, sheet, release) in texts() {

@@ -46,7 +46,7 @@ pub fn past_blanks(s: &[u8], at: usize) -> usize
 }
 
 // Whether the blanks from `i` to `p` count as a space: there are some, and not at the start.
-fn gap_before(i: usize, p: usize) -> bool
+pub fn gap_before(i: usize, p: usize) -> bool
     ensures { λ r. ⌜ r ≡ gap i p ⌝ }
 {
     (i != 0) & (p != i)
@@ -183,7 +183,7 @@ fn opened(t: &[u16; 1328], s: &[u8], p: usize) -> Next
 }
 
 // The next byte of the compared form of a label that was read to `i`, where the bytes of `w` come first.
-fn next_byte(t: &[u16; 1328], s: &[u8], i: usize, w: u64) -> Next
+pub fn next_byte(t: &[u16; 1328], s: &[u8], i: usize, w: u64) -> Next
     requires { ⌜ now t ≡ table ⌝ }
     ensures { λ r. ⌜ form (now (s .entry)) i w ≡ emit (r .byte) (form (now (s .entry)) (r .at) (r .left)) ⌝ }
 {

@@ -39,7 +39,7 @@ fn is_absent(r: Range) -> bool
 }
 
 // Whether the definitions of rows `j` and `k` differ in destination, in title or in whether they have one.
-fn rows_differ<'a>(note: &'a [u8], sheet: &'a [u8], table: &[u32], j: usize, k: usize) -> bool
+pub fn rows_differ<'a>(note: &'a [u8], sheet: &'a [u8], table: &[u32], j: usize, k: usize) -> bool
     requires { ⌜ j < wholeRows (now table) ⌝ }
     requires { ⌜ k < wholeRows (now table) ⌝ }
     requires { ⌜ PartsWithin (textOf (texts (now note) (now sheet)) (textAt (now table) j)) (definitionAt (now table) j) ⌝ }
@@ -78,8 +78,9 @@ fn row_conflicts<'a>(note: &'a [u8], sheet: &'a [u8], table: &[u32], k: usize) -
     }
 }
 
-// The first of the table's `count` definitions, the joined list, that differs from an earlier one of equal label.
-pub fn first_conflict<'a>(note: &'a [u8], sheet: &'a [u8], table: &[u32], count: usize) -> Found
+// The first of the table's `count` definitions, the joined list, that differs from an earlier one of equal label. Each is looked up among the rows
+// before it: that is the meaning. `repeats` finds the same row sooner.
+pub fn first_slow<'a>(note: &'a [u8], sheet: &'a [u8], table: &[u32], count: usize) -> Found
     requires { ⌜ Listing (texts (now note) (now sheet)) (now table) ⌝ }
     requires { ⌜ count ≡ length (joined (texts (now note) (now sheet))) ⌝ }
     ensures { λ r. ⌜ r ≡ firstConflict (texts (now (note .entry)) (now (sheet .entry))) ⌝ }

@@ -93,7 +93,7 @@ module _ (s : List ℕ) (l e : ℕ) where
   pub record AfterPlaces (d : Definition) (n : ℕ) : Type 0 where
     pub label-start : d .label .start ≡ l
     pub label-end : d .label .end ≡ e
-    pub apart : e < d .destination .start
+    pub apart : e + 1 < d .destination .start
     pub destination : d .destination .start ≤ d .destination .end
     pub ends : d .destination .end ≤ n
     pub inside : n ≤ length s

@@ -18,7 +18,7 @@ use Rattle.definition.proofs.Definitions.{opens-at}
 pub record DefinitionPlaces (s : List ℕ) (at : ℕ) (d : Definition) (n : ℕ) : Type 0 where
   pub low : at < d .label .start
   pub label : d .label .start ≤ d .label .end
-  pub apart : d .label .end < d .destination .start
+  pub apart : d .label .end + 1 < d .destination .start
   pub destination : d .destination .start ≤ d .destination .end
   pub ends : d .destination .end ≤ n
   pub inside : n ≤ length s

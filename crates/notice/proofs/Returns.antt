@@ -1,12 +1,12 @@
 -- What the reader has done at each return, and that it keeps the promise. A part that was lent empty comes back empty, before the table itself.
-use Prim.Native.Nat.{ℕ, _+_, _≤_, _<_, _^_}
+use Prim.Native.Nat.{ℕ, zero, suc, _+_, _/_, _≤_, _<_}
 use native.Mathlib.Omega.{arith}
 use mathlib.Core.Path.{_≡_, refl, sym, ap, _∙_}
 use mathlib.Core.Option.{Option, none, some}
 use mathlib.Core.List.{List, [], _∷_, _++_}
 use mathlib.Core.Bool.{Bool, true, false}
 use borrow.Author.Tests.{lt-ltb, le-ltb}
-use lib.ListN.{length}
+use lib.ListN.{length, getD, replicate}
 use lib.Dec.{ltb}
 use Rattle.scan.specs.Byte.{within}
 use Rattle.scan.specs.declared.Found.{Found}
@@ -14,14 +14,16 @@ use Rattle.scan.specs.declared.Found.the-variants.{At, Nothing}
 use Rattle.scan.proofs.Test.{by}
 use Rattle.texts.specs.declared.Checked.{Checked}
 use Rattle.texts.specs.declared.Checked.the-variants as texts
+use Rattle.text.specs.Utf8.{noteLimit}
 use Rattle.texts.specs.Texts.{Texts}
 use Rattle.texts.specs.Answers.{GoodTexts}
 use Rattle.texts.specs.Reading.{checkOf}
 use Rattle.texts.proofs.Refusals.{good-texts}
 use Rattle.rows.proofs.Filled as rows
 use Rattle.row.specs.Row as definitionTable
-use Rattle.row.proofs.Filled.{filled-empty, filled-still, entries-back}
+use Rattle.row.proofs.Filled.{filled-empty, entries-back}
 use Rattle.joined.specs.Reading.{joined, Listing}
+use Rattle.joined.proofs.Few.{few-joined}
 use Rattle.conflict.specs.Reading.{firstConflict}
 use Rattle.conflict.proofs.Conflicts.{first-conflict-iff}
 use Rattle.table.proofs.Lookup.{table-fit}
@@ -31,7 +33,8 @@ use Rattle.step.specs.declared.Walk.{Walk}
 use Rattle.paragraph.specs.declared.Tally.{Tally}
 use Rattle.paragraph.specs.declared.Tally.the-variants as tallies
 use Rattle.paragraph.specs.Tally as tally
-use Rattle.paragraphs.specs.Spans.{spansFilled, Defined, NoteMarked}
+use Rattle.index.specs.Index.{Ready}
+use Rattle.paragraphs.specs.Spans.{spansFilled, Defined, NoteMarked, Surely}
 use Rattle.paragraphs.proofs.Turns.{was-spans, was-deep}
 use Rattle.notice.specs.declared.Reading.{Reading}
 use Rattle.notice.specs.declared.Reading.the-variants.{Read, Long, Bad, FewDefinitions, Conflicting, Deep, FewSpans}
@@ -86,6 +89,27 @@ module _ (T : Texts) (count : ℕ) {part : List ℕ} {r : Tally} (m : NoteMarked
           let y : n ≤ spanTable.wholeRows u = omega (arith, rows-lent) in
           record { answer = rw (never, count-is, le-ltb (spanTable.wholeRows u) n y) refl; spans = z .table (ap tally.numberOf (z .answer) ∙ rw never refl) ∙ ap (spansFilled (spanRows T)) back }
 
+-- they surely fit, and are stored at once
+module _ (T : Texts) (count : ℕ) {u : List ℕ} {r : Tally} {u′ : List ℕ} (m : NoteMarked T u r u′) (sure : Surely (T .note) (spanTable.wholeRows u)) where
+  pub never-deep : {place : ℕ} → r ≡ tallies.Deep place → SpansRead T count u (Deep place) u′
+  never-deep er = let no : ⊥ = omega (arith, m .deep (ap tally.numberOf er), sure .never) in absurd no
+
+  pub at-once : {w : Walk} → r ≡ tallies.Spans w → SpansRead T count u (Read count (w .row)) u′
+  at-once {w} er =
+      let (never, walked) = was-spans (firstDeep T) (m .walk) (sym (m .answer) ∙ er) in
+      let number = ap tally.numberOf er in
+      let count-is : length (spanRows T) ≡ w .row = sym (m .counted number) ∙ ap (λ (x : Walk). x .row) walked in
+      let fits : w .row ≤ spanTable.wholeRows u = omega (arith, count-is, m .few number, sure .enough) in
+      record { answer = rw (never, count-is, le-ltb (spanTable.wholeRows u) (w .row) fits) refl; spans = m .table number }
+
+-- ---- an index that was made just now holds nothing yet
+first-zero : (n : ℕ) → _≡_ {A = ℕ} (getD (replicate {A = ℕ} n 0) 0 0) 0
+first-zero zero = refl
+first-zero (suc n) = refl
+
+pub fresh : (T : Texts) (t : List ℕ) (count n : ℕ) → Ready T t count (replicate {A = ℕ} n 0)
+fresh T t count n e = let z : _≡_ {A = ℕ} 0 4294967295 = sym (first-zero n) ∙ e in let no : ⊥ = omega arith in absurd no
+
 -- ---- conflicts
 -- the table holds the joined list
 pub listing : {T : Texts} {t : List ℕ} {count : ℕ} → Defined T t count → Listing T t
@@ -135,14 +159,14 @@ module _ (T : Texts) (t u : List ℕ) {c : Checked} (ec : c ≡ checkOf T) where
   not-good {release} {x} {k} e = kept (sym (by-check release T lent lent′ (texts.Bad x k) (sym ec ∙ e))) refl refl
 
 module _ (T : Texts) {c : Checked} (ec : c ≡ checkOf T) (e : c ≡ texts.Good) where
-  good : GoodTexts T
+  pub good : GoodTexts T
   good = good-texts T .0 (sym ec ∙ e)
 
-  pub short-note : length (T .note) < 2 ^ 32
-  short-note = omega (arith, good .note .short)
+  pub short-note : length (T .note) ≤ noteLimit
+  short-note = good .note .short
 
-  pub short-sheet : length (T .sheet) < 2 ^ 32
-  short-sheet = omega (arith, good .sheet .short)
+  pub short-sheet : length (T .sheet) ≤ noteLimit
+  short-sheet = good .sheet .short
 
 -- refusals 9, 4 and 5 and success leave the rows of the definitions
 spans-there : (d : ℕ) (o : Option ℕ) (n k : ℕ) → within 1 3 (numberOf (withSpans d o n k)) ≡ false
@@ -199,13 +223,17 @@ module _ (T : Texts) (t u : List ℕ) {c : Checked} (ec : c ≡ checkOf T) (good
         ∙ sym (by-check release T (definitionTable.wholeRows t) spans texts.Good (sym ec ∙ good) ∙ enough-definitions release (firstConflict T) (length (joined T)) (firstDeep T) (length (spanRows T)) (definitionTable.wholeRows t) spans enough))
         (table ∙ rw (e, rows-there release (firstConflict T) (length (joined T)) (firstDeep T) (length (spanRows T)) spans) refl) (m .spans)
 
-  -- where there are none, the table is the one that was lent
-  module _ (h : count ≤ n) (z : count ≡ 0) where
-    still : part ++ t ≡ definitionTable.filled T (joined T) (part ++ t)
-    still = filled-still T (joined T) (part ++ t) (sym en ∙ z)
+-- ---- the rows are surely enough, and all are stored at once
+module _ (T : Texts) (t u : List ℕ) (good : GoodTexts T) (enough : length (joined T) ≤ definitionTable.wholeRows t) {count : ℕ} (en : count ≡ length (joined T))
+    {t′ : List ℕ} (et : t′ ≡ definitionTable.filled T (joined T) t) where
+  abbrev none-before : [] ≡ definitionTable.filled T (joined T) []
+  none-before = sym (filled-empty T (joined T))
 
-    pub none-defined : Defined T (part ++ t) count
-    none-defined = defined h still
+  pub defined-at-once : Defined T t′ count
+  defined-at-once = defined T t u refl (good-texts T .1 good) none-before en refl (omega (arith, en)) et
 
-    pub none-read : {release : Bool} {r : Reading} {u′ : List ℕ} → JoinedRead release T count u r u′ → Promise release T t u r T (part ++ t) u′
-    none-read = all-read h still
+  pub read-at-once : {release : Bool} {r : Reading} {u′ : List ℕ} → JoinedRead release T count u r u′ → Promise release T t u r T t′ u′
+  read-at-once = all-read T t u refl (good-texts T .1 good) none-before en refl (omega (arith, en)) et
+
+pub within-third : (T : Texts) {n : ℕ} → (length (T .note) + length (T .sheet)) / 3 ≤ n → length (joined T) ≤ n
+within-third T h = omega (arith, few-joined T)

@@ -1,3 +1,4 @@
+pub mod Most
 pub mod Stack
 pub mod Loop
 pub mod Turns

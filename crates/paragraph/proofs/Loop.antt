@@ -1,20 +1,21 @@
 -- What the loop keeps: from where the code stands, the scan comes to the same end as from its start.
-use Prim.Native.Nat.{ℕ, _+_, _≤_, _<_}
+use Prim.Native.Nat.{ℕ, _+_, _-_, _≤_, _<_}
 use native.Mathlib.Nat.{add-zero}
 use native.Mathlib.Omega.{arith}
 use mathlib.Core.Path.{_≡_, refl, sym, ap, _∙_}
 use mathlib.Core.Bool.{false}
+use mathlib.Core.Logic.{inl, inr}
 use mathlib.Core.Option.{none}
-use mathlib.Core.List.{List, [], _∷_, _++_, map, map-append}
+use mathlib.Core.List.{List, [], _∷_, _++_, map, map-append, tail}
 use lib.ListN.{length, length-append, length-map}
 use Rattle.line.specs.Promise.{Before}
 use Rattle.line.proofs.Lines.{later}
 use Rattle.note.specs.Note.{depthLimit}
 use Rattle.scan.proofs.Test.{by}
-use Rattle.marking.specs.Marking.{role, Piece}
+use Rattle.marking.specs.Marking.{nothing, opening, role, Piece}
 use Rattle.marking.specs.Spans as marked
 use Rattle.marking.specs.ReadingRules.{Grammar}
-use Rattle.marking.specs.Reading.{Match, alone, paired, taken, isCode, stackBy, pieceAt, placeAfter, lastAfter, newSpans}
+use Rattle.marking.specs.Reading.{Match, alone, paired, taken, isCode, sortOf, foundBy, stackBy, pieceAt, placeAfter, lastAfter, newSpans}
 use Rattle.marking.specs.ReadingSpans.{Scan, scanFound, scanStep, scanStart, finish, spans, overAt, overs, over}
 use Rattle.marking.proofs.Finish.{finish-step, finish-end, overs-step, overs-end, scan-grows, scan-within}
 use Rattle.rows.specs.Rows
@@ -30,7 +31,12 @@ use Rattle.step.specs.Reading.{storedAll}
 use Rattle.step.specs.Promise.{afresh, Lined, spansAt, Steps}
 use Rattle.paragraph.specs.Promise.{openPlaces, Waits, Reads}
 use Rattle.step.specs.declared.Walk.{Walk}
+use Rattle.inline.proofs.Pieces.{at-open, at-image}
+use Rattle.scan.proofs.Scan.{peek-inside}
+use Rattle.step.specs.Promise.{Opening}
 use Rattle.paragraph.specs.declared.Tally.the-variants.{Spans}
+use Rattle.paragraph.proofs.Stack.{opens-here, closes-here, open-length}
+use Rattle.paragraph.proofs.Most.{SoFar, so-far-starts, Few, few-none, few-close, CodeEnds, next-mark, next-text, next-close, next-open, next-image, Begins, mark, text, close, link, image, begins}
 
 -- ---- rows stored one after the other
 pub stored-more : (s : List ℕ) (t : List ℕ) (k : ℕ) (xs ys : List Span) → storedAll s (storedAll s t k xs) (k + length xs) ys ≡ storedAll s t k (xs ++ ys)
@@ -73,6 +79,7 @@ module _ (s : List ℕ) (offset : ℕ) (p : List ℕ) (labels : List (List ℕ))
     pub waits : Waits s offset p (wholeRows t₀) w stack
     pub inside : offset + length p ≤ length s
     pub line-before : Before s (w .line) (offset + w .at)
+    pub so-far : SoFar p k (w .at) (w .row) (w .depth)
 
   pub on-start : (stack : List ℕ) → depthLimit + depthLimit ≤ length stack → offset + length p ≤ length s → (w : Walk) → w .row ≡ k → Before s (w .line) offset → On stack (afresh w) t₀
   unfolding scanStart Rows.storedAll
@@ -88,6 +95,7 @@ module _ (s : List ℕ) (offset : ℕ) (p : List ℕ) (labels : List (List ℕ))
         waits = record { room = e; fits = omega arith; each = λ i h. absurd (omega arith); lines-are = λ r i h. absurd (omega arith) };
         inside = i;
         line-before = later b (omega arith) (omega arith);
+        so-far = rw q (so-far-starts p k);
       }
 
   module _ {stack : List ℕ} {w : Walk} {t : List ℕ} (o : On stack w t) where
@@ -103,6 +111,8 @@ module _ (s : List ℕ) (offset : ℕ) (p : List ℕ) (labels : List (List ℕ))
           line = λ z. later (o .line-before) (omega (arith, o .bounded)) (o .inside);
           table = λ z. rw e (o .table-is);
           few = λ z. rw e (omega (arith, o .few, o .bounded));
+          few-ends = λ z. rw e (omega (arith, o .row-is, o .so-far .rows));
+          deep = λ z. let no : ⊥ = omega arith in absurd no;
         }
 
     module _ (h : w .at < length p) where
@@ -138,6 +148,74 @@ module _ (s : List ℕ) (offset : ℕ) (p : List ℕ) (labels : List (List ℕ))
         on-within : w′ .at ≤ length p
         on-within = omega (arith, scan-within g (sound p labels) here h, ap (λ (x : Scan Tail). x .place) next)
 
+        -- ---- no more than the paragraph can have at the most
+        alone-here : role (pieceFrom p (w .at) .kind) ≡ nothing → f ≡ alone
+        unfolding scanFound
+        alone-here e = sym ef ∙ ap (foundBy (λ a. sortOf (g .kindAt a)) (λ a. g .tailAt (g .endAt a) (w .at)) (w .last) (openPlaces w stack)) e
+
+        alone-open : role (pieceFrom p (w .at) .kind) ≡ opening → f ≡ alone
+        unfolding scanFound
+        alone-open e = sym ef ∙ ap (foundBy (λ a. sortOf (g .kindAt a)) (λ a. g .tailAt (g .endAt a) (w .at)) (w .last) (openPlaces w stack)) e
+
+        -- the piece gives no row
+        no-row : f ≡ alone → isCode (pieceFrom p (w .at) .kind) ≡ false → w′ .row ≡ w .row
+        no-row e c = let z : length (more f) ≡ 0 = rw (e, c) refl in omega (arith, y .row, z)
+
+        one-row : w′ .row ≤ w .row + 1
+        one-row = omega (arith, y .row, few-spans (pieceAt g) (pieceAt g (w .at)) f)
+
+        -- where the piece that starts here ends
+        at-end : f ≡ alone → w′ .at ≡ pieceFrom p (w .at) .end
+        at-end e = y .at ∙ ap (λ (x : Match Tail). placeAfter g (pieceAt g (w .at)) x) e
+
+        few-rows : f ≡ alone → CodeEnds p (w .at) (pieceFrom p (w .at)) → Few p (w .at) (w .row) (w′ .at) (w′ .row)
+        few-rows e c =
+            by (isCode (pieceFrom p (w .at) .kind)) (λ q. rw (at-end e) (record { few-are = omega (arith, one-row, c q) }))
+            (λ q. few-none p (w .at) on-less (no-row e q))
+
+        module _ (waits : Waits s offset p (wholeRows t₀) w′ stack′) where
+          open-before : length (openPlaces w stack) ≡ w .depth
+          open-before = open-length s offset p (wholeRows t₀) w stack (o .waits)
+
+          open-after : length (stackBy (w .at) (openPlaces w stack) (role (pieceFrom p (w .at) .kind))) ≡ w′ .depth
+          open-after = ap length es ∙ open-length s offset p (wholeRows t₀) w′ stack′ waits
+
+          tail-length : (l : List ℕ) → length (tail l) ≡ length l - 1
+          tail-length [] = omega arith
+          tail-length (x ∷ l) = omega arith
+
+          opened-here : Opening p (w .at) → w′ .depth ≡ w .depth + 1
+          opened-here e = let z = rw (opens-here p (w .at) e) at open-after in omega (arith, open-before)
+
+          so-far-from : Begins p (w .at) → SoFar p k (w′ .at) (w′ .row) (w′ .depth)
+          so-far-from (mark a b c e) =
+              let z = rw e at open-after in
+              next-mark p k (w .at) (w .row) (w .depth) h (o .so-far) on-less (few-rows (alone-here e) c) a b (omega (arith, open-before))
+          so-far-from (text a e) =
+              let e′ : role (pieceFrom p (w .at) .kind) ≡ nothing = ap (λ (q : Piece). role (q .kind)) e in
+              let z = rw e′ at open-after in
+              let n = no-row (alone-here e′) (ap (λ (q : Piece). isCode (q .kind)) e) in
+              let m : w′ .at ≡ w .at + 1 = at-end (alone-here e′) ∙ ap (λ (q : Piece). q .end) e in
+              next-text p k (w .at) (w .row) (w .depth) h (o .so-far) on-less (few-none p (w .at) on-less n) a m (omega (arith, open-before))
+          so-far-from (close e) =
+              let z = rw (closes-here p (w .at) e) at open-after in
+              next-close p k (w .at) (w .row) (w .depth) h (o .so-far) on-less (few-close p (w .at) on-less h e one-row) e (omega (arith, open-before, tail-length (openPlaces w stack)))
+          so-far-from (link e) =
+              let i : Opening p (w .at) = inl e in
+              let r = opens-here p (w .at) i in
+              let n = no-row (alone-open r) (ap (λ (q : Piece). isCode (q .kind)) (at-open p (w .at) e)) in
+              let m : w′ .at ≡ w .at + 1 = at-end (alone-open r) ∙ ap (λ (q : Piece). q .end) (at-open p (w .at) e) in
+              next-open p k (w .at) (w .row) (w .depth) h (o .so-far) on-less (few-none p (w .at) on-less n) e m (opened-here i)
+          so-far-from (image a b e) =
+              let i : Opening p (w .at) = inr e in
+              let r = opens-here p (w .at) i in
+              let n = no-row (alone-open r) (ap (λ (q : Piece). isCode (q .kind)) (at-image p (w .at) e)) in
+              let m : w′ .at ≡ w .at + 2 = at-end (alone-open r) ∙ ap (λ (q : Piece). q .end) (at-image p (w .at) e) in
+              next-image p k (w .at) (w .row) (w .depth) h (o .so-far) on-less (few-none p (w .at) on-less n) a (peek-inside p (w .at + 1) (λ q. omega arith)) b m (opened-here i)
+
+          so-far-next : SoFar p k (w′ .at) (w′ .row) (w′ .depth)
+          so-far-next = so-far-from (begins p (w .at))
+
         pub on-next : overAt depthLimit g here ≡ false → Waits s offset p (wholeRows t₀) w′ stack′ → Before s (w′ .line) (offset + w .at) → On stack′ w′ u
         on-next eo waits b =
             let l : length (o .xs ++ more f) ≡ length (o .xs) + length (more f) = length-append (o .xs) (more f) in
@@ -152,6 +230,7 @@ module _ (s : List ℕ) (offset : ℕ) (p : List ℕ) (labels : List (List ℕ))
               waits = waits;
               inside = o .inside;
               line-before = later b (omega (arith, on-less)) (omega (arith, on-within, o .inside));
+              so-far = so-far-next waits;
             }
           where
             table-more : u ≡ storedAll s t₀ k (rows (o .xs ++ more f))

@@ -37,6 +37,7 @@ use Rattle.step.specs.declared.Walk.{Walk}
 use Rattle.paragraph.specs.declared.Tally.the-variants.{Deep}
 use Rattle.inline.proofs.Pieces.{at-close}
 use Rattle.paragraph.proofs.Stack.{opens-here, closes-here, open-length, waits-later, bracket-opens}
+use Rattle.paragraph.proofs.Most.{held-deep}
 use Rattle.paragraph.proofs.Loop.{On, lined-here, on-next, on-less}
 
 -- ---- a piece that is no bracket
@@ -181,6 +182,8 @@ module _ (s : List ℕ) (offset : ℕ) (p : List ℕ) (labels : List (List ℕ))
         line = λ z. let no : ⊥ = omega arith in absurd no;
         table = λ z. let no : ⊥ = omega arith in absurd no;
         few = λ z. let no : ⊥ = omega arith in absurd no;
+        few-ends = λ z. let no : ⊥ = omega arith in absurd no;
+        deep = λ z. held-deep p k (w .at) (w .row) (o .so-far) h d (y .opening);
       }
 
 -- ---- what the bounds of the whole paragraph tell

@@ -13,6 +13,7 @@ use Rattle.row.specs.declared.Definition.{Definition}
 use Rattle.span.specs.Row.{wholeRows}
 use Rattle.inline.specs.Tails.{Tail}
 use Rattle.inline.specs.Reading.{grammar}
+use Rattle.most.specs.Most.{ends, held}
 use Rattle.step.specs.Promise.{Opening, openEnd, Steps}
 use Rattle.step.specs.Reading.{rowsFor, storedAll}
 use Rattle.step.specs.declared.Walk.{Walk}
@@ -96,3 +97,6 @@ module _ (s : List ℕ) (offset : ℕ) (p : List ℕ) (labels : List (List ℕ))
     pub table : numberOf r ≡ 0 → u ≡ storedAll s t k (rowsFor offset p labels ds)
     -- no span is empty
     pub few : numberOf r ≡ 0 → length (spans (grammar p labels)) ≤ length p
+    -- each ends with a byte of its own, and brackets that are too many are held open
+    pub few-ends : numberOf r ≡ 0 → length (spans (grammar p labels)) ≤ ends p
+    pub deep : numberOf r ≡ 4 → depthLimit ≤ held p

@@ -4,6 +4,7 @@ ghost use Rattle.texts.specs.Texts.{texts};
 ghost use Rattle.row.specs.First.{bytesOf};
 ghost use Rattle.row.specs.Row.{range};
 ghost use Rattle.row.specs.Reading.{Fit, definitionsFrom};
+ghost use Rattle.index.specs.Index.{Ready as Indexed};
 ghost use Rattle.parens.specs.Unclosed.{Prepared};
 ghost use Rattle.tail.specs.Ending.{labelsIn};
 ghost use Rattle.span.specs.Row.{wholeRows};
@@ -57,6 +58,7 @@ fn close_bracket<'a>(
     sheet: &'a [u8],
     table: &[u32],
     count: usize,
+    index: &mut [u32],
     spans: &mut [u32],
     w: Walk,
     stack: &[u32],
@@ -66,10 +68,12 @@ fn close_bracket<'a>(
     requires { ⌜ Waits (now note) start (now p) (wholeRows (now spans)) w (now stack) ⌝ }
     requires { ⌜ Bounds start (now p) count w ⌝ }
     requires { ⌜ Fit (texts (now note) (now sheet)) (now table) count ⌝ }
+    requires { ⌜ Indexed (texts (now note) (now sheet)) (now table) count (now index) ⌝ }
     requires { ⌜ Prepared (now p) (w .at) (now marks) ⌝ }
     requires { ⌜ Lined (now note) start w ⌝ }
     ensures { λ r. ⌜ Brackets (now (note .entry)) start (now (p .entry)) (labelsIn (texts (now (note .entry)) (now (sheet .entry))) (now (table .entry)) count) (definitionsFrom (now (table .entry)) 0 count) w (now (stack .entry)) (now (spans .entry)) r (now (stack .entry)) (now (spans .exit)) ⌝ }
     ensures { λ r. ⌜ Prepared (now (p .entry)) (r .at) (now (marks .exit)) ⌝ }
+    ensures { λ r. ⌜ Indexed (texts (now (note .entry)) (now (sheet .entry))) (now (table .entry)) count (now (index .exit)) ⌝ }
 {
     let depth = w.depth - 1;
     let opening = stack[depth] as usize;
@@ -81,6 +85,7 @@ fn close_bracket<'a>(
         sheet,
         table,
         count,
+        index,
         spans,
         w,
         opening,
@@ -90,7 +95,7 @@ fn close_bracket<'a>(
 }
 
 // The spans of the paragraph that stands in the note from `start` to `end`: their rows go into `spans` from the row of `from` on,
-// as far as they fit. Definitions are the first `count` rows of `table`. `stack`, `runs` and `marks` are lent to be written in: what
+// as far as they fit. Definitions are the first `count` rows of `table`, and `index` is lent for an index of them. `stack`, `runs` and `marks` are lent to be written in: what
 // they hold is of no account. One number of the last two says that nothing of this paragraph stands there yet; of the stack only
 // what has been put on it is read.
 pub fn read_paragraph<'a>(
@@ -100,6 +105,7 @@ pub fn read_paragraph<'a>(
     end: usize,
     table: &[u32],
     count: usize,
+    index: &mut [u32],
     spans: &mut [u32],
     from: Walk,
     stack: &mut [u32],
@@ -108,8 +114,10 @@ pub fn read_paragraph<'a>(
 ) -> Tally
     requires { ⌜ Lies (now note) start end count from ⌝ }
     requires { ⌜ Fit (texts (now note) (now sheet)) (now table) count ⌝ }
+    requires { ⌜ Indexed (texts (now note) (now sheet)) (now table) count (now index) ⌝ }
     requires { ⌜ Lent (now note) (now stack) (now marks) ⌝ }
     ensures { λ r. ⌜ Reads (now (note .entry)) start (bytesOf (now (note .entry)) (range start end)) (labelsIn (texts (now (note .entry)) (now (sheet .entry))) (now (table .entry)) count) (definitionsFrom (now (table .entry)) 0 count) (from .row) (now (spans .entry)) r (now (spans .exit)) ⌝ }
+    ensures { λ r. ⌜ Indexed (texts (now (note .entry)) (now (sheet .entry))) (now (table .entry)) count (now (index .exit)) ⌝ }
 {
     let p = &note[start..end];
     runs[0] = 0;
@@ -124,7 +132,19 @@ pub fn read_paragraph<'a>(
             }
             w = open_bracket(note, start, spans, w, size, stack);
         } else if (p[at] == 93) & (0 < w.depth) {
-            w = close_bracket(p, start, note, sheet, table, count, spans, w, stack, marks);
+            w = close_bracket(
+                p,
+                start,
+                note,
+                sheet,
+                table,
+                count,
+                index,
+                spans,
+                w,
+                stack,
+                marks,
+            );
         } else {
             w = step::pass_piece(p, start, note, spans, w, runs);
         }

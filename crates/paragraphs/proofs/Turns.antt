@@ -23,6 +23,8 @@ use Rattle.walk.proofs.Whole.{all-paragraphs}
 use Rattle.span.specs.declared.Span.{Span}
 use Rattle.span.specs.Row.{numbers, filled}
 use Rattle.span.proofs.Filled.{filled-none, length-filled}
+use Rattle.definition.specs.Reading.{paragraphs}
+use Rattle.most.specs.Most.{ends, held, endsOf, heldOf}
 use Rattle.inline.specs.Reading.{grammar}
 use Rattle.inline.specs.ReadingRows.{spanRow}
 use Rattle.note.specs.Reading.{labels, rowsIn, spanRows, deepIn, firstDeep}
@@ -58,6 +60,8 @@ pub record Going (T : Texts) (u₀ u : List ℕ) (at : ℕ) (w : Walk) : Type 0 
   pub few : w .row ≤ at
   pub inside : at ≤ length (T .note)
   pub line : Before (T .note) (w .line) at
+  pub few-ends : w .row + endsOf (paragraphsFrom (T .note) at) ≤ endsOf (paragraphs (T .note))
+  pub few-held : heldOf (paragraphsFrom (T .note) at) ≤ heldOf (paragraphs (T .note))
 
 module _ (T : Texts) (u₀ : List ℕ) where
   pub starts : {w : Walk} → w ≡ first → Going T u₀ u₀ 0 w
@@ -71,6 +75,8 @@ module _ (T : Texts) (u₀ : List ℕ) where
     few = omega (arith, ap (λ (x : Walk). x .row) e);
     inside = omega arith;
     line = rw e (none-before (T .note));
+    few-ends = omega (arith, ap (λ (x : Walk). x .row) e, ap endsOf (all-paragraphs (T .note)));
+    few-held = omega (arith, ap heldOf (all-paragraphs (T .note)));
   }
 
   module _ {u : List ℕ} {at : ℕ} {w : Walk} (g : Going T u₀ u at w) where
@@ -88,7 +94,14 @@ module _ (T : Texts) (u₀ : List ℕ) where
         let rows : spanRows T ≡ map (numbers (T .note)) (g .passed) = g .rows-are ∙ rw none-left (append-nil (map (numbers (T .note)) (g .passed))) in
         let never : firstDeep T ≡ none = g .deep-is ∙ rw none-left refl in
         let count : w .row ≡ length (spanRows T) = g .counted ∙ sym (ap length rows ∙ length-map (g .passed) (numbers (T .note))) in
-        record { walk = w; answer = rw never refl; counted = λ z. count; table = λ z. g .table ∙ filled-numbers (T .note) (g .passed) u₀ ∙ rw rows refl }
+        record {
+          walk = w;
+          answer = rw never refl;
+          counted = λ z. count;
+          table = λ z. g .table ∙ filled-numbers (T .note) (g .passed) u₀ ∙ rw rows refl;
+          few = λ z. omega (arith, count, g .few-ends);
+          deep = λ z. let no : ⊥ = omega arith in absurd no;
+        }
 
     module _ {x : Paragraph} (q : IsParagraph (T .note) at x) {a e n : ℕ} (ex : x ≡ paragraph.At a e n) where
       here : FirstParagraph (T .note) at a e n
@@ -122,6 +135,15 @@ module _ (T : Texts) (u₀ : List ℕ) where
         size : length p ≡ e - a
         size = length-take-le (e - a) (drop a (T .note)) (omega (arith, length-drop a (T .note), here .ends, here .inside))
 
+        -- what the paragraph and those after it can have at the most
+        ends-first : endsOf (paragraphsFrom (T .note) at) ≡ ends p + endsOf (paragraphsFrom (T .note) n)
+        unfolding endsOf
+        ends-first = rw (here .first) refl
+
+        held-first : heldOf (paragraphsFrom (T .note) at) ≡ held p + heldOf (paragraphsFrom (T .note) n)
+        unfolding heldOf
+        held-first = rw (here .first) refl
+
         first-too-many : {place : ℕ} → r ≡ Deep place → firstDeep T ≡ some (a + place)
         unfolding deepIn labels
         first-too-many {place} er =
@@ -134,7 +156,14 @@ module _ (T : Texts) (u₀ : List ℕ) where
         pub too-deep : {place : ℕ} → r ≡ Deep place → NoteMarked T u₀ (Deep (a + place)) u′
         too-deep {place} er =
             let f : firstDeep T ≡ some (a + place) = first-too-many er in
-            record { walk = read .walk; answer = rw f refl; counted = λ z. let no : ⊥ = omega arith in absurd no; table = λ z. let no : ⊥ = omega arith in absurd no }
+            record {
+              walk = read .walk;
+              answer = rw f refl;
+              counted = λ z. let no : ⊥ = omega arith in absurd no;
+              table = λ z. let no : ⊥ = omega arith in absurd no;
+              few = λ z. let no : ⊥ = omega arith in absurd no;
+              deep = λ z. omega (arith, read .deep (ap numberOf er), held-first, g .few-held);
+            }
 
         pub further : {w′ : Walk} → r ≡ Spans w′ → Going T u₀ u′ n w′
         unfolding rowsIn deepIn labels
@@ -157,4 +186,6 @@ module _ (T : Texts) (u₀ : List ℕ) where
               few = omega (arith, c, read .few (ap numberOf er), size, g .few, here .low, here .ends, here .ordered);
               inside = here .inside;
               line = subst (λ (x : Walk). Before (T .note) (x .line) n) j (later (read .line (ap numberOf er)) (omega (arith, size, here .ordered, here .ends)) (here .inside));
+              few-ends = omega (arith, c, read .few-ends (ap numberOf er), ends-first, g .few-ends);
+              few-held = omega (arith, held-first, g .few-held);
             }

@@ -1,5 +1,5 @@
 -- The spans of all paragraphs, counted and stored.
-use Prim.Native.Nat.{ℕ, _≤_}
+use Prim.Native.Nat.{ℕ, _≤_, _<_}
 use mathlib.Core.Path.{_≡_}
 use mathlib.Core.List.{List}
 use lib.ListN.{length}
@@ -9,6 +9,9 @@ use Rattle.rows.specs.Rows
 use Rattle.row.specs.Reading.{Fit, listedFrom}
 use Rattle.joined.specs.Reading.{joined}
 use Rattle.span.specs.Row as spanTable
+use Rattle.definition.specs.Reading.{paragraphs}
+use Rattle.most.specs.Most.{endsOf, heldOf}
+use Rattle.note.specs.Note.{depthLimit}
 use Rattle.note.specs.Reading.{spanRows, firstDeep}
 use Rattle.step.specs.declared.Walk.{Walk}
 use Rattle.paragraph.specs.declared.Tally.{Tally}
@@ -36,3 +39,11 @@ pub record NoteMarked (T : Texts) (u : List ℕ) (r : Tally) (u′ : List ℕ) :
   pub answer : r ≡ tally.tallyOf (firstDeep T) walk
   pub counted : tally.numberOf r ≡ 0 → walk .row ≡ length (spanRows T)
   pub table : tally.numberOf r ≡ 0 → u′ ≡ spansFilled (spanRows T) u
+  -- no more than the paragraphs' bytes tell
+  pub few : tally.numberOf r ≡ 0 → length (spanRows T) ≤ endsOf (paragraphs (T .note))
+  pub deep : tally.numberOf r ≡ 4 → depthLimit ≤ heldOf (paragraphs (T .note))
+
+-- so many rows are enough for the spans of the note s, and no bracket is too many, whatever the definitions are
+pub record Surely (s : List ℕ) (rows : ℕ) : Type 0 where
+  pub enough : endsOf (paragraphs s) ≤ rows
+  pub never : heldOf (paragraphs s) < depthLimit

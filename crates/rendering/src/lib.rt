@@ -4,6 +4,7 @@ ghost use lib.ListN.{length};
 ghost use Rattle.texts.specs.Texts.{texts};
 ghost use Rattle.joined.specs.Reading.{Listing};
 ghost use Rattle.page.specs.Reading.{pageOf};
+ghost use Rattle.walk.specs.Promise.{Remembers};
 ghost use Rattle.cursor.specs.Spanned.{Spanned};
 ghost use Rattle.rendering.specs.Answers.{numberOf, valueOf, namedOf, definitionCount, spanCount, pageLength};
 ghost use Rattle.rendering.specs.Reading.{withPage, pageBufferOf};
@@ -127,20 +128,44 @@ fn render_rows<'a>(
     spans: &[u32],
     d: usize,
     n: usize,
+    list: &[u16],
+    paragraphs: usize,
     page: &mut [u8],
 ) -> Rendering
     requires { ⌜ Spanned (texts (now note) (now sheet)) (now spans) n ⌝ }
     requires { ⌜ Listing (texts (now note) (now sheet)) (now definitions) ⌝ }
+    requires { ⌜ Remembers (now note) (now list) paragraphs ⌝ }
     ensures { λ r. ⌜ r ≡ withPage (length (pageOf (texts (now (note .entry)) (now (sheet .entry))))) (length (now (page .entry))) d n ⌝ }
     ensures { λ r. ⌜ now (page .exit) ≡ pageBufferOf (texts (now (note .entry)) (now (sheet .entry))) r (now (page .entry)) ⌝ }
 {
     let mut starts = [0u16; cursor::PLACES];
     cursor::mark_starts(spans, n, &mut starts);
-    let need = writer::write_page(note, sheet, definitions, spans, n, &starts, &mut page[..0]);
+    let none = &mut page[..0];
+    let need = writer::write_page(
+        note,
+        sheet,
+        definitions,
+        spans,
+        n,
+        &starts,
+        list,
+        paragraphs,
+        none,
+    );
     if page.len() < need {
         return Rendering::ShortPage(need);
     }
-    writer::write_page(note, sheet, definitions, spans, n, &starts, page);
+    writer::write_page(
+        note,
+        sheet,
+        definitions,
+        spans,
+        n,
+        &starts,
+        list,
+        paragraphs,
+        page,
+    );
     Rendering::Rendered(d, n, need)
 }
 
@@ -155,13 +180,29 @@ pub fn render<'a>(
 ) -> Rendering
     ensures { λ r. ⌜ Promise release (texts (now (note .entry)) (now (sheet .entry))) (now (definitions .entry)) (now (spans .entry)) (now (page .entry)) r (texts (now (note .exit)) (now (sheet .exit))) (now (definitions .exit)) (now (spans .exit)) (now (page .exit)) ⌝ }
 {
-    match notice::read(note, sheet, release, definitions, spans) {
+    let mut list = [0u16; walk::LIST];
+    let read = notice::read_listed(note, sheet, release, definitions, spans, &mut list);
+    let paragraphs = read.paragraphs;
+    let reading = read.reading;
+    match reading {
         Reading::Long(x, n) => Rendering::Long(x, n),
         Reading::Bad(x, k) => Rendering::Bad(x, k),
         Reading::FewDefinitions(n) => Rendering::FewDefinitions(n),
         Reading::Conflicting(n) => Rendering::Conflicting(n),
         Reading::Deep(k) => Rendering::Deep(k),
         Reading::FewSpans(n) => Rendering::FewSpans(n),
-        Reading::Read(d, n) => render_rows(note, sheet, definitions, spans, d, n, page),
+        Reading::Read(d, n) => {
+            render_rows(
+                note,
+                sheet,
+                definitions,
+                spans,
+                d,
+                n,
+                &list,
+                paragraphs,
+                page,
+            )
+        }
     }
 }

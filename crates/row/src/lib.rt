@@ -133,7 +133,7 @@ pub fn part_of<'a>(note: &'a [u8], sheet: &'a [u8], text: usize, r: Range) -> &'
 }
 
 // The label of the row that starts at `at`, from the text that the row names.
-fn label_at<'a>(note: &'a [u8], sheet: &'a [u8], table: &[u32], at: usize) -> &'a [u8]
+pub fn label_at<'a>(note: &'a [u8], sheet: &'a [u8], table: &[u32], at: usize) -> &'a [u8]
     requires { ⌜ at + 2 < length (now table) ⌝ }
     requires { ⌜ Within (textOf (texts (now note) (now sheet)) (getD (now table) at 0)) (rangeAt (now table) (at + 1)) ⌝ }
     ensures { λ r. ⌜ now r ≡ labelAt (texts (now (note .entry)) (now (sheet .entry))) (now (table .entry)) at ⌝ }

@@ -5,6 +5,7 @@ ghost use Prim.Native.Nat.{_+_, _<_};
 ghost use lib.ListN.{length};
 ghost use Rattle.texts.specs.Texts.{texts};
 ghost use Rattle.row.specs.Reading.{Fit, definitionsFrom};
+ghost use Rattle.index.specs.Index.{Ready as Indexed};
 ghost use Rattle.parens.specs.Unclosed.{Prepared};
 ghost use Rattle.ticks.specs.LastRuns.{Ready};
 ghost use Rattle.inline.specs.Reading.{tailAt};
@@ -94,20 +95,23 @@ fn tail_at<'a>(
     sheet: &'a [u8],
     definitions: &[u32],
     count: usize,
+    index: &mut [u32],
     marks: &mut [u8],
 ) -> Ending
     requires { ⌜ TextTo (now p) from closing ⌝ }
     requires { ⌜ Fit (texts (now note) (now sheet)) (now definitions) count ⌝ }
+    requires { ⌜ Indexed (texts (now note) (now sheet)) (now definitions) count (now index) ⌝ }
     requires { ⌜ Prepared (now p) closing (now marks) ⌝ }
     ensures { λ r. ⌜ shown? (closing + 1) r ≡ tailAt (now (p .entry)) (labelsIn (texts (now (note .entry)) (now (sheet .entry))) (now (definitions .entry)) count) from closing ⌝ }
     ensures { λ r. ⌜ Sized? r ⌝ }
+    ensures { λ r. ⌜ Indexed (texts (now (note .entry)) (now (sheet .entry))) (now (definitions .entry)) count (now (index .exit)) ⌝ }
     ensures { λ r. ⌜ Prepared (now (p .entry)) (closing + 1) (now (marks .exit)) ⌝ }
 {
     let next = closing + 1;
     let text = &p[from..closing];
     let rest = &p[next..];
     let own = &mut marks[next..];
-    tail::tail_after(text, rest, note, sheet, definitions, count, own)
+    tail::tail_after(text, rest, note, sheet, definitions, count, index, own)
 }
 
 // The place of the last link's `[` after the pair that opens at `opening` is taken: an image is no link.
@@ -129,6 +133,7 @@ pub fn close_pair<'a>(
     sheet: &'a [u8],
     definitions: &[u32],
     count: usize,
+    index: &mut [u32],
     spans: &mut [u32],
     w: Walk,
     opening: usize,
@@ -138,9 +143,11 @@ pub fn close_pair<'a>(
     requires { ⌜ LinedPair (now note) start (now p) (now spans) w opening line ⌝ }
     requires { ⌜ Bounds start (now p) count w ⌝ }
     requires { ⌜ Fit (texts (now note) (now sheet)) (now definitions) count ⌝ }
+    requires { ⌜ Indexed (texts (now note) (now sheet)) (now definitions) count (now index) ⌝ }
     requires { ⌜ Prepared (now p) (w .at) (now marks) ⌝ }
     ensures { λ r. ⌜ Closes (now (note .entry)) start (now (p .entry)) (labelsIn (texts (now (note .entry)) (now (sheet .entry))) (now (definitions .entry)) count) (definitionsFrom (now (definitions .entry)) 0 count) opening w (now (spans .entry)) r (now (spans .exit)) ⌝ }
     ensures { λ r. ⌜ Prepared (now (p .entry)) (r .at) (now (marks .exit)) ⌝ }
+    ensures { λ r. ⌜ Indexed (texts (now (note .entry)) (now (sheet .entry))) (now (definitions .entry)) count (now (index .exit)) ⌝ }
 {
     let next = w.at + 1;
     let mut v = w;
@@ -151,7 +158,8 @@ pub fn close_pair<'a>(
         return v;
     }
     let from = link::text_from(image, opening);
-    let Ending::With(t) = tail_at(p, from, w.at, note, sheet, definitions, count, marks) else {
+    let Ending::With(t) = tail_at(p, from, w.at, note, sheet, definitions, count, index, marks)
+    else {
         return v;
     };
     let row = link::pair_row(start, image, opening, w.at, t, definitions, count);

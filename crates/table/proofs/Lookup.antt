@@ -2,10 +2,11 @@
 use Prim.Native.Nat.{ℕ, _+_, _≤_, _<_, _^_}
 use native.Mathlib.Omega.{arith}
 use mathlib.Core.Path.{_≡_, refl, sym, _∙_}
-use mathlib.Core.List.{List, []}
+use mathlib.Core.List.{List, [], _∷_, _++_}
 use mathlib.Core.Logic.{_↔_}
 use lib.ListN.{length, length-map}
 use Rattle.scan.specs.declared.Found.the-variants.{At, Nothing}
+use Rattle.text.specs.Utf8.{noteLimit}
 use Rattle.texts.specs.Texts.{Texts, noteNumber, sheetNumber}
 use Rattle.row.specs.declared.Definition.{Definition}
 use Rattle.row.specs.Row.{listed, wholeRows, filled, storedAll}
@@ -13,6 +14,7 @@ use Rattle.row.specs.First.{labelsOf, past-end, FirstEqual, NoneEqual}
 use Rattle.row.specs.Reading.{firstMatch, rowOf, Within, Fit}
 use Rattle.row.proofs.Filled.{filled-none, stored-after, filled-fit, row-of-filled, row-of-first, row-of-none}
 use Rattle.definition.specs.Reading.{definitions}
+use Rattle.walk.specs.Promise.{Remembers}
 use Rattle.walk.proofs.Places.{Lies, definitions-lie}
 use Rattle.joined.specs.Joined.{listedIn}
 use Rattle.joined.specs.Reading.{joined}
@@ -36,8 +38,13 @@ both-stored T t {t₁} {m = m} n e f =
 pub both-counted : (T : Texts) {m n : ℕ} → m ≡ 0 + length (definitions (T .note)) → n ≡ m + length (definitions (T .sheet)) → n ≡ length (joined T)
 both-counted T e f = omega (arith, e, f, length-joined T)
 
-pub few-own : (s : List ℕ) {m : ℕ} → length s < 2 ^ 32 → m ≡ 0 + length (definitions s) → m < 2 ^ 32
+pub few-own : (s : List ℕ) {m : ℕ} → length s ≤ noteLimit → m ≡ 0 + length (definitions s) → m < 2 ^ 32
 few-own s h e = omega (arith, e, few-definitions s)
+
+-- of the list no number was lent on
+pub list-kept : {s list : List ℕ} {n : ℕ} (none : List ℕ) → length none ≡ 0 → Remembers s list n → Remembers s (none ++ list) n
+list-kept [] e r = r
+list-kept (x ∷ none) e r = let no : ⊥ = omega arith in absurd no
 
 -- t is the table lent; after filling it is t′, and k definitions were counted
 module _ (T : Texts) (t : List ℕ) (enough : length (joined T) ≤ wholeRows t) {t′ : List ℕ} (stored : t′ ≡ filled T (joined T) t) {k : ℕ} (counted : k ≡ length (joined T)) where

@@ -4,6 +4,7 @@ ghost use Prim.Native.Nat.{ℕ};
 ghost use Rattle.texts.specs.Texts.{texts};
 ghost use Rattle.parens.specs.Unclosed.{Prepared};
 ghost use Rattle.row.specs.Reading.{Fit, firstMatch};
+ghost use Rattle.index.specs.Index.{Ready};
 ghost use Rattle.inline.specs.ReadingTails.{closedAt, afterDestination, inlineOf, emptyAfter, fullBy, textTail, referenceOf, tailOf};
 ghost use Rattle.tail.specs.Ending.{labelsIn, shown?, Sized?, labelLength};
 use inline::InlineParts;
@@ -119,12 +120,15 @@ fn full_reference<'a>(
     sheet: &'a [u8],
     definitions: &[u32],
     count: usize,
+    index: &mut [u32],
 ) -> Ending
     requires { ⌜ Fit (texts (now note) (now sheet)) (now definitions) count ⌝ }
+    requires { ⌜ Ready (texts (now note) (now sheet)) (now definitions) count (now index) ⌝ }
     ensures { λ r. ⌜ ((at : ℕ) → shown? at r ≡ fullBy length (firstMatch (labelsIn (texts (now (note .entry)) (now (sheet .entry))) (now (definitions .entry)) count) (now (label .entry)))) ⌝ }
     ensures { λ r. ⌜ Sized? r ⌝ }
+    ensures { λ r. ⌜ Ready (texts (now (note .entry)) (now (sheet .entry))) (now (definitions .entry)) count (now (index .exit)) ⌝ }
 {
-    match row::lookup(note, sheet, definitions, count, label) {
+    match finding::find(note, sheet, definitions, count, index, label) {
         Found::At(k) => Ending::With(ReadTail {
             length,
             way: Way::Full(k),
@@ -141,15 +145,18 @@ fn text_reference<'a>(
     sheet: &'a [u8],
     definitions: &[u32],
     count: usize,
+    index: &mut [u32],
 ) -> Ending
     requires { ⌜ Fit (texts (now note) (now sheet)) (now definitions) count ⌝ }
+    requires { ⌜ Ready (texts (now note) (now sheet)) (now definitions) count (now index) ⌝ }
     ensures { λ r. ⌜ ((at : ℕ) → shown? at r ≡ textTail (labelsIn (texts (now (note .entry)) (now (sheet .entry))) (now (definitions .entry)) count) (now (text .entry)) (now (rest .entry))) ⌝ }
     ensures { λ r. ⌜ Sized? r ⌝ }
+    ensures { λ r. ⌜ Ready (texts (now (note .entry)) (now (sheet .entry))) (now (definitions .entry)) count (now (index .exit)) ⌝ }
 {
     if !label::is_label(text) {
         return Ending::Nothing;
     }
-    match row::lookup(note, sheet, definitions, count, text) {
+    match finding::find(note, sheet, definitions, count, index, text) {
         Found::At(k) => {
             if empty_after(rest) {
                 return Ending::With(ReadTail {
@@ -174,19 +181,22 @@ fn reference<'a>(
     sheet: &'a [u8],
     definitions: &[u32],
     count: usize,
+    index: &mut [u32],
 ) -> Ending
     requires { ⌜ Fit (texts (now note) (now sheet)) (now definitions) count ⌝ }
+    requires { ⌜ Ready (texts (now note) (now sheet)) (now definitions) count (now index) ⌝ }
     ensures { λ r. ⌜ ((at : ℕ) → shown? at r ≡ referenceOf (labelsIn (texts (now (note .entry)) (now (sheet .entry))) (now (definitions .entry)) count) (now (text .entry)) (now (rest .entry))) ⌝ }
     ensures { λ r. ⌜ Sized? r ⌝ }
+    ensures { λ r. ⌜ Ready (texts (now (note .entry)) (now (sheet .entry))) (now (definitions .entry)) count (now (index .exit)) ⌝ }
 {
     match label_after(rest) {
-        Found::At(n) => full_reference(&rest[1..n - 1], n, note, sheet, definitions, count),
-        Found::Nothing => text_reference(text, rest, note, sheet, definitions, count),
+        Found::At(n) => full_reference(&rest[1..n - 1], n, note, sheet, definitions, count, index),
+        Found::Nothing => text_reference(text, rest, note, sheet, definitions, count, index),
     }
 }
 
 // The tail of a pair of brackets: `text` stands between them, and `rest` is the part of the paragraph that starts after the closing one.
-// Definitions are the first `count` rows of their table.
+// Definitions are the first `count` rows of their table; `index` is lent for an index of them.
 pub fn tail_after<'a>(
     text: &[u8],
     rest: &[u8],
@@ -194,12 +204,15 @@ pub fn tail_after<'a>(
     sheet: &'a [u8],
     definitions: &[u32],
     count: usize,
+    index: &mut [u32],
     marks: &mut [u8],
 ) -> Ending
     requires { ⌜ Fit (texts (now note) (now sheet)) (now definitions) count ⌝ }
+    requires { ⌜ Ready (texts (now note) (now sheet)) (now definitions) count (now index) ⌝ }
     requires { ⌜ Prepared (now rest) 0 (now marks) ⌝ }
     ensures { λ r. ⌜ ((at : ℕ) → shown? at r ≡ tailOf (labelsIn (texts (now (note .entry)) (now (sheet .entry))) (now (definitions .entry)) count) (now (text .entry)) (now (rest .entry)) at) ⌝ }
     ensures { λ r. ⌜ Sized? r ⌝ }
+    ensures { λ r. ⌜ Ready (texts (now (note .entry)) (now (sheet .entry))) (now (definitions .entry)) count (now (index .exit)) ⌝ }
     ensures { λ r. ⌜ Prepared (now (rest .entry)) 0 (now (marks .exit)) ⌝ }
 {
     match inline_tail(rest, marks) {
@@ -212,6 +225,6 @@ pub fn tail_after<'a>(
                 way: Way::Parts(destination, title),
             })
         }
-        InlineTail::Nothing => reference(text, rest, note, sheet, definitions, count),
+        InlineTail::Nothing => reference(text, rest, note, sheet, definitions, count, index),
     }
 }

@@ -2,8 +2,13 @@
 use Prim.Native.Nat.{ℕ, _+_, _≤_, _<_}
 use mathlib.Core.Path.{_≡_}
 use mathlib.Core.List.{List}
+use mathlib.Core.Bool.{Bool, not}
 use lib.ListN.{getD}
-use Rattle.inline.specs.Pieces.{MaximalBackticks}
+use Rattle.inline.specs.Pieces.{backtick, MaximalBackticks}
+
+-- a byte that is no backtick
+abbrev pub otherByte : ℕ → Bool
+otherByte b = not (backtick b)
 
 -- the table has a place for the lengths below this one
 abbrev pub lengths : ℕ

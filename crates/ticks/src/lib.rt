@@ -1,12 +1,12 @@
 // Where the last run of each length ends, so that a search for a run that is not there need not be made.
 ghost use mathlib.Core.Path.{_≡_};
 ghost use mathlib.Core.Bool.{false};
-ghost use Prim.Native.Nat.{_+_, _<_, _^_};
+ghost use Prim.Native.Nat.{_<_, _^_};
 ghost use lib.ListN.{length, getD, drop, set};
 ghost use Rattle.scan.specs.Reading.{past};
 ghost use Rattle.inline.specs.Pieces.{backtick};
-ghost use Rattle.inline.specs.ReadingPieces.{countAfter, closingRun};
-ghost use Rattle.ticks.specs.LastRuns.{lengths, LastRuns, Ready};
+ghost use Rattle.inline.specs.ReadingPieces.{closingRun};
+ghost use Rattle.ticks.specs.LastRuns.{lengths, otherByte, LastRuns, Ready};
 use scan::Found;
 
 // The table has a place for the lengths below this one. A note has room for at most 31 runs of this length or more.
@@ -15,7 +15,8 @@ pub const LENGTHS: usize = 1024;
 // A text shorter than this is searched sooner than the table is cleared.
 const SHORT: usize = 32;
 
-// The first place from `at` on where no backtick stands; the end is one.
+// The first place from `at` on where no backtick stands; the end is one. Strides are tried once four backticks are passed: most runs are
+// shorter.
 pub fn backticks_end(s: &[u8], at: usize) -> usize
     ensures { λ r. ⌜ r ≡ past backtick (now (s .entry)) at ⌝ }
 {
@@ -25,37 +26,43 @@ pub fn backticks_end(s: &[u8], at: usize) -> usize
             return i;
         }
         i += 1;
+        if i - at == 4 {
+            i = scan::past_strides(s, i, 96, 0, 95, 97, 97, 97);
+        }
     }
     i
 }
 
-// Backticks just before the next place, where `count` stand just before `b`.
-fn count_after(count: usize, b: u8) -> usize
-    requires { ⌜ count + 1 < 2 ^ 64 ⌝ }
-    ensures { λ r. ⌜ r ≡ countAfter count b ⌝ }
+// The first place from `at` on where a backtick stands; the end is one. Strides are tried once sixteen bytes are passed.
+fn next_backtick(s: &[u8], at: usize) -> usize
+    ensures { λ r. ⌜ r ≡ past otherByte (now (s .entry)) at ⌝ }
 {
-    if b == 96 {
-        return count + 1;
+    let mut i = at;
+    while i < s.len() {
+        if s[i] == 96 {
+            return i;
+        }
+        i += 1;
+        if i - at == 16 {
+            i = scan::past_strides(s, i, 255, 96, 96, 96, 96, 96);
+        }
     }
-    0
+    i
 }
 
 // Where the first maximal run of exactly `n` backticks ends, from `at` on, which is not inside a run.
 fn closing_run(s: &[u8], at: usize, n: usize) -> Found
+    requires { ⌜ 0 < n ⌝ }
     ensures { λ r. ⌜ r ≡ closingRun n (drop at (now (s .entry))) at ⌝ }
 {
     let mut i = at;
-    let mut count: usize = 0;
     while i < s.len() {
-        let b = s[i];
-        if !(b == 96) & (count == n) {
-            return Found::At(i);
+        let a = next_backtick(s, i);
+        let e = backticks_end(s, a);
+        if e - a == n {
+            return Found::At(e);
         }
-        count = count_after(count, b);
-        i += 1;
-    }
-    if count == n {
-        return Found::At(i);
+        i = e;
     }
     Found::Nothing
 }
@@ -87,18 +94,12 @@ fn last_runs(p: &[u8], table: &mut [u32; LENGTHS])
 {
     *table = [0; LENGTHS];
     let mut i = 0;
-    let mut count: usize = 0;
     while i < p.len() {
-        if p[i] == 96 {
-            count += 1;
-            i += 1;
-            continue;
-        }
-        put(table, count, i);
-        count = 0;
-        i += 1;
+        let a = next_backtick(p, i);
+        let e = backticks_end(p, a);
+        put(table, e - a, e);
+        i = e;
     }
-    put(table, count, i);
     table[0] = 1;
 }
 

@@ -22,8 +22,9 @@ use Rattle.definition.proofs.Takings.{turn-over, turn-taken, taking-takes}
 use Rattle.walk.specs.declared.Block.{Block}
 use Rattle.walk.specs.declared.Block.the-variants as block
 use Rattle.walk.specs.declared.Cursor.{Cursor}
-use Rattle.walk.specs.Reading.{placedBetween, blocksFrom, paragraphsFrom, definitionsAfter}
+use Rattle.walk.specs.Reading.{placedBetween, blocksFrom, paragraphsFrom, definitionsAfter, paragraphsAfter}
 use Rattle.walk.specs.Promise.{FirstBlock, IsBlock, FirstDefinition, FirstParagraph}
+use Rattle.walk.proofs.Ends.{block-lined, block-room}
 
 -- ---- blocks: what is left from place i on are all of them from place `at` on
 module _ (s : List ℕ) (at i : ℕ) (inv : blocksFrom s i ≡ blocksFrom s at) where
@@ -45,6 +46,8 @@ module _ (s : List ℕ) (at i : ℕ) (inv : blocksFrom s i ≡ blocksFrom s at) 
         low = h;
         nonempty = omega (arith, places.block-advances s i other);
         inside = omega (arith, places.block-inside s i other);
+        lined = rw f (block-lined s i other);
+        room = rw f (block-room s i other);
       }
 
 pub line-less : (s : List ℕ) (i : ℕ) {n : ℕ} → i < length s → n ≡ i + lineLength (drop i s) → length s - n < length s - i
@@ -105,10 +108,24 @@ module _ (s : List ℕ) (i : ℕ) {x : Entry} (is-entry : x ≡ definitionAt s i
   pub rest-on : {r : ℕ} {d : Definition} {n : ℕ} → definitionsFrom s i .after ≡ r → x ≡ Defined d n → definitionsFrom s n .after ≡ r
   rest-on {d} {n} inv e = sym (ap (λ (t : Taking). t .after) (turn-taken s i d n (sym is-entry ∙ e))) ∙ inv
 
--- ---- definitions: what is left at place `at` of the block that ends at `end` is what c has before it
+-- ---- what is left where a block was found: what is left at its start
 abbrev pub cursor : ℕ → ℕ → Cursor
 cursor at end = record { at = at; end = end }
 
+module _ (s : List ℕ) (i : ℕ) {a z : ℕ} (f : FirstBlock s i a z) where
+  pub found-definitions : definitionsIn s (blocksFrom s i) ≡ definitionsAfter s (cursor a z)
+  unfolding definitionsIn definitionsAfter
+  found-definitions =
+      ap (definitionsIn s) (f .first)
+      ∙ ap (λ (t : Taking). t .definitions ++ definitionsIn s (blocksFrom s z)) (its-taking s a z (omega (arith, f .nonempty)) (f .inside))
+
+  pub found-paragraphs : paragraphsFrom s i ≡ paragraphsAfter s (cursor a z)
+  unfolding paragraphsFrom paragraphsIn paragraphsAfter
+  found-paragraphs =
+      ap (paragraphsIn s) (f .first)
+      ∙ ap (λ (l : List Placed). l ++ paragraphsIn s (blocksFrom s z)) (its-paragraph s a z (omega (arith, f .nonempty)) (f .inside))
+
+-- ---- definitions: what is left at place `at` of the block that ends at `end` is what c has before it
 module _ (s : List ℕ) (c : Cursor) (at end : ℕ) (inv : definitionsAfter s (cursor at end) ≡ definitionsAfter s c) {x : Entry} (is-entry : x ≡ definitionAt (take end s) at) where
   pub definition-here : {d : Definition} {n : ℕ} → c .at ≤ at → end ≤ length s → x ≡ Defined d n → FirstDefinition s c d (cursor n end)
   unfolding definitionsAfter
@@ -133,11 +150,7 @@ module _ (s : List ℕ) (c : Cursor) (at end : ℕ) (inv : definitionsAfter s (c
     no-definition q e = let l : blocksFrom s end ≡ [] = rw e at q in sym (rw l at block-over)
 
     pub next-block : {b : Block} {a z : ℕ} → IsBlock s end b → b ≡ block.At a z → definitionsAfter s (cursor a z) ≡ definitionsAfter s c
-    unfolding definitionsIn definitionsAfter
-    next-block {a = a} {z} q e =
-        let f = found-block s end q e in
-        let t = its-taking s a z (omega (arith, f .nonempty)) (f .inside) in
-        ap (λ (t : Taking). t .definitions ++ definitionsIn s (blocksFrom s z)) (sym t) ∙ sym (ap (definitionsIn s) (f .first)) ∙ block-over
+    next-block q e = sym (found-definitions s end (found-block s end q e)) ∙ block-over
 
 -- ---- paragraphs: what is left from place i on are all of them from place `at` on
 pub end-within : (s : List ℕ) → (paragraphEnd s ≤ length s) × (length s ≤ paragraphEnd s + 1)
@@ -151,11 +164,8 @@ module _ (s : List ℕ) (at i : ℕ) (inv : paragraphsFrom s i ≡ paragraphsFro
 
   module _ {a z : ℕ} (e : b ≡ block.At a z) {r : ℕ} (rest : r ≡ definitionsFrom (take z s) a .after) where
     this-and-others : paragraphsFrom s at ≡ paragraphFrom (take z s) r ++ paragraphsFrom s z
-    unfolding paragraphsFrom paragraphsIn
-    this-and-others =
-        let f = found-block s i is-block e in
-        sym inv ∙ ap (paragraphsIn s) (f .first)
-        ∙ ap (λ (l : List Placed). l ++ paragraphsIn s (blocksFrom s z)) (its-paragraph s a z (omega (arith, f .nonempty)) (f .inside) ∙ ap (paragraphFrom (take z s)) (sym rest))
+    unfolding paragraphsAfter
+    this-and-others = sym inv ∙ found-paragraphs s i (found-block s i is-block e) ∙ ap (λ (n : ℕ). paragraphFrom (take z s) n ++ paragraphsFrom s z) (sym rest)
 
     pub all-taken : z ≤ r → paragraphsFrom s z ≡ paragraphsFrom s at
     unfolding paragraphFrom

@@ -8,6 +8,7 @@ ghost use Rattle.texts.specs.Texts.{texts};
 ghost use Rattle.row.specs.First.{namedText};
 ghost use Rattle.joined.specs.Reading.{joined, Listing};
 ghost use Rattle.span.specs.Row.{numbers};
+ghost use Rattle.walk.specs.Promise.{Remembers};
 ghost use Rattle.note.specs.Reading.{spanRows};
 ghost use Rattle.buffer.specs.Stored.{pageMost, Writes};
 ghost use Rattle.page.specs.Reading.{openTag, closeTag, pageOf};
@@ -232,8 +233,8 @@ fn write_paragraph<'a>(
     w
 }
 
-// The page of a note whose span rows are the first `count` of the one table, while the other holds the joined list and `starts` tells where
-// those rows start: writes what fits, and returns the whole length.
+// The page of a note whose span rows are the first `count` of the one table, while the other holds the joined list, `starts` tells where
+// those rows start, and `list` has the note's paragraphs: writes what fits, and returns the whole length.
 pub fn write_page<'a>(
     note: &'a [u8],
     sheet: &'a [u8],
@@ -241,13 +242,17 @@ pub fn write_page<'a>(
     spans: &[u32],
     count: usize,
     starts: &[u16],
+    list: &[u16],
+    paragraphs: usize,
     page: &mut [u8],
 ) -> usize
     requires { ⌜ Spanned (texts (now note) (now sheet)) (now spans) count ⌝ }
     requires { ⌜ Started (spanRows (texts (now note) (now sheet))) (now starts) ⌝ }
     requires { ⌜ Listing (texts (now note) (now sheet)) (now definitions) ⌝ }
+    requires { ⌜ Remembers (now note) (now list) paragraphs ⌝ }
     ensures { λ r. ⌜ Writes (now (page .entry)) 0 (pageOf (texts (now (note .entry)) (now (sheet .entry)))) (now (page .exit)) r ⌝ }
 {
+    let mut k = 0;
     let mut next = 0;
     let mut p = Pass {
         at: 0,
@@ -255,11 +260,13 @@ pub fn write_page<'a>(
         size: 0,
     };
     loop {
-        let Paragraph::At(start, end, after) = walk::next_paragraph(note, next) else {
+        let Paragraph::At(start, end, after) = walk::next_listed(note, list, paragraphs, k, next)
+        else {
             return p.size;
         };
         p.at = start;
         p = write_paragraph(note, sheet, definitions, spans, count, starts, end, p, page);
+        k += 1;
         next = after;
     }
 }

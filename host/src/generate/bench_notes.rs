@@ -1,6 +1,7 @@
 //! The notes of the benchmark: plausible notices, and notes that are hard to read quickly.
 
 use super::chance::Chance;
+use super::many_labels;
 use crate::second::{LONGEST_NOTE, MOST_BRACKETS_OPEN};
 
 /// A note of the benchmark, with its name in the table of figures, the sheet beside it, and whether it is read for
@@ -72,6 +73,10 @@ pub fn of_size(most: usize) -> Vec<BenchNote> {
         ..BenchNote::of("definitions_release", definitions(most), String::new())
     });
     notes.extend(in_letters(chance, most));
+    for (name, labels) in many_labels::all(most) {
+        let [note, sheet] = of_labels(chance, &labels, most);
+        notes.push(BenchNote::of(name, note, sheet));
+    }
     notes
 }
 
@@ -162,16 +167,32 @@ fn numbers(chance: &mut Chance, word: &str, definitions: usize, room: usize) -> 
 }
 
 /// References to these definitions in lines, after what the note starts with.
-fn with_references(mut note: String, word: &str, numbers: &[usize]) -> String {
+fn with_references(note: String, word: &str, numbers: &[usize]) -> String {
+    in_lines(note, numbers.iter().map(|number| reference(word, *number)))
+}
+
+fn in_lines(mut note: String, references: impl Iterator<Item = String>) -> String {
     let mut line = 0;
-    for number in numbers {
-        let reference = reference(word, *number);
+    for reference in references {
         note += &reference;
         line += reference.chars().count() + 1;
         note += if line > 70 { "\n" } else { " " };
         line %= 71;
     }
     note
+}
+
+/// A note and a sheet of definitions of labels that are all as long: as many as fit in the sheet, the others in the note, and
+/// references to them by chance, up to the limit.
+fn of_labels(chance: &mut Chance, labels: &[String], most: usize) -> [String; 2] {
+    let definition = |label: &String| format!("[{label}]:b\n");
+    let fit = most / definition(&labels[0]).len();
+    let [shared, own] = [&labels[..fit], &labels[fit..]];
+    let [sheet, note] = [shared, own].map(|labels| labels.iter().map(definition).collect());
+    let note: String = note + "\n";
+    let room = (most - note.len()) / (labels[0].len() + 3);
+    let references = (0..room).map(|_| format!("[{}]", labels[chance.below(labels.len())]));
+    [in_lines(note, references), sheet]
 }
 
 /// Backtick runs of every length, so that none has another of its length after it.

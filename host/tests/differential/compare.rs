@@ -1,6 +1,7 @@
-//! One call of the library and the second reader's answer to it.
+//! One call of the library, or of the quick reader, and the second reader's answer to it.
 
 use crate::lent::{byte_guard, number_guard, Lent};
+use crate::quick;
 use host::entries::{self, Enquiry, Reading, Rendering};
 use host::second::{self, alone, ReadAnswer, RenderAnswer, ResolveAnswer};
 
@@ -58,14 +59,14 @@ pub struct Named {
 pub type Compared = Result<Named, String>;
 
 /// Memory that is only read: the note and the sheet.
-struct Read {
+struct ReadOnly {
     note: Lent<u8>,
     sheet: Lent<u8>,
 }
 
-impl Read {
-    fn lent(texts: Texts) -> Read {
-        Read {
+impl ReadOnly {
+    fn lent(texts: Texts) -> ReadOnly {
+        ReadOnly {
             note: Lent::bytes(texts.note),
             sheet: Lent::bytes(texts.sheet),
         }
@@ -99,47 +100,69 @@ impl Tables {
     }
 }
 
-/// The reader. With an empty sheet, and for no release, the answer is held against the one for the note alone.
+/// The reader, and the quick one. With an empty sheet, and for no release, the answer is held against the one for the note
+/// alone.
 pub fn read(texts: Texts, release: bool, lending: Lending) -> Compared {
+    let wanted = wanted_reading(texts, release, lending);
+    for (name, call) in [
+        ("read", entries::read as Read),
+        ("quick reader", quick::read),
+    ] {
+        compare_reading(texts, release, lending, &wanted, call)
+            .map_err(|what| format!("{name} with {lending:?}, release {release}\n{what}"))?;
+    }
+    Ok(named(wanted.number, wanted.text))
+}
+
+/// A reader, as it is called.
+type Read = fn(&[u8], &[u8], bool, &mut [u32], &mut [u32]) -> Reading;
+
+fn wanted_reading(texts: Texts, release: bool, lending: Lending) -> ReadAnswer {
     let Texts { note, sheet } = texts;
     let Lending {
         definition_numbers,
         span_numbers,
         ..
     } = lending;
-    let wanted = if sheet.is_empty() && !release {
+    if sheet.is_empty() && !release {
         let numbers = lending.definition_numbers_alone();
         let old = alone::read(note, numbers, span_numbers);
-        old.with_empty_sheet().without_page()
-    } else {
-        second::read(note, sheet, release, definition_numbers, span_numbers)
-    };
-    let mut lent = Read::lent(texts);
+        return old.with_empty_sheet().without_page();
+    }
+    second::read(note, sheet, release, definition_numbers, span_numbers)
+}
+
+/// One call of a reader.
+fn compare_reading(
+    texts: Texts,
+    release: bool,
+    lending: Lending,
+    wanted: &ReadAnswer,
+    call: Read,
+) -> Result<(), String> {
+    let mut lent = ReadOnly::lent(texts);
     let mut tables = Tables::lent(lending);
-    let given = entries::read(
+    let given = call(
         lent.note.part(),
         lent.sheet.part(),
         release,
         tables.definitions.part(),
         tables.spans.part(),
     );
-    let after = |definitions: &[u32], spans: &[u32]| {
+    same(&given, &reading(wanted))?;
+    lent.same(texts)?;
+    tables.same(|definitions, spans| {
         (
             wanted.definition_table(definitions),
             wanted.span_table(spans),
         )
-    };
-    same(&given, &reading(&wanted))
-        .and_then(|()| lent.same(texts))
-        .and_then(|()| tables.same(after))
-        .map_err(|what| format!("read with {lending:?}, release {release}\n{what}"))?;
-    Ok(named(wanted.number, wanted.text))
+    })
 }
 
 /// The page writer, likewise.
 pub fn render(texts: Texts, release: bool, lending: Lending) -> Compared {
     let wanted = wanted_rendering(texts, release, lending);
-    let mut lent = Read::lent(texts);
+    let mut lent = ReadOnly::lent(texts);
     let mut tables = Tables::lent(lending);
     let mut page = Lent::of(lending.page_bytes, byte_guard);
     let given = entries::render(
@@ -194,7 +217,7 @@ pub fn resolve(texts: Texts, label: &[u8]) -> Compared {
     } else {
         second::resolve(note, sheet, label)
     };
-    let mut lent = Read::lent(texts);
+    let mut lent = ReadOnly::lent(texts);
     let mut asked = Lent::bytes(label);
     let given = entries::resolve(lent.note.part(), lent.sheet.part(), asked.part());
     same(&given, &enquiry(&wanted))
@@ -224,9 +247,7 @@ fn same<T: PartialEq + std::fmt::Debug>(given: &T, wanted: &T) -> Result<(), Str
     if given == wanted {
         return Ok(());
     }
-    Err(format!(
-        "answer:\n  library {given:?}\n  second  {wanted:?}"
-    ))
+    Err(format!("answer:\n  given  {given:?}\n  wanted {wanted:?}"))
 }
 
 fn named(number: u32, text: usize) -> Named {

@@ -51,7 +51,7 @@ impl<T: Copy + PartialEq + std::fmt::Debug> Lent<T> {
         let from_start = place as isize - GUARDS as isize;
         let around = |list: &[T]| format!("{:?}", &list[place..list.len().min(place + 12)]);
         Err(format!(
-            "{name} of {}, from place {from_start} on:\n  library {}\n  second  {}",
+            "{name} of {}, from place {from_start} on:\n  given  {}\n  wanted {}",
             part.len(),
             around(&self.whole),
             around(&wanted)

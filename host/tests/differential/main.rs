@@ -1,6 +1,7 @@
 //! The proved library, through its exported entries, against the second reader: answer numbers,
 //! values, counts and texts, both tables and the page whole, with the guards around them. Where the sheet
-//! is empty and it is for no release, what is wanted are the second reader's answers for the note alone.
+//! is empty and it is for no release, what is wanted are the second reader's answers for the note alone. The quick
+//! reader is held against the same answers wherever the library's reader is.
 //!
 //! Random notes are the same in every run. Two environment variables change that:
 //! - `NOTICE_DIFFERENTIAL_NOTES=N`: so many random notes alone (600,000 if not given), as many beside
@@ -19,6 +20,7 @@ mod labels;
 mod lent;
 mod lines;
 mod named;
+mod quick;
 mod random;
 mod raw;
 mod raw_tables;

@@ -27,8 +27,8 @@ is-quiet-requires c κs = search turns
 returns : tie.Need-returns Inv-loop μ-loop
 returns c = search turns
 
-past-strides-requires : tie.Need-past-strides-requires Inv-loop μ-loop
-past-strides-requires c κs = search turns
+past-long-plain-requires : tie.Need-past-long-plain-requires Inv-loop μ-loop
+past-long-plain-requires c κs = search turns
 
 loop-holds : tie.Need-loop-holds Inv-loop μ-loop
 loop-holds c = search turns
@@ -67,7 +67,7 @@ plain-end-spec =
     peek-requires
     is-quiet-requires
     returns
-    past-strides-requires
+    past-long-plain-requires
     loop-holds
     shared-slice-read-is-quiet
     is-quiet-requires-2

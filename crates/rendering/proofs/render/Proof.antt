@@ -1,41 +1,52 @@
 -- Each return keeps the promise, by what the reader answered and, where it read the note, by what was written.
 use borrow.Author.Needs.{needs}
+use native.Mathlib.Omega.{arith}
+use Prim.Native.Nat.{ℕ}
+use mathlib.Core.Path.{ap}
+use lib.ListN.{length-replicate}
+use Rattle.notice.specs.Answers.{numberOf}
 use Rattle.rendering.proofs.Returns.{too-long, not-good, too-few-definitions, conflict-found, too-deep, too-few-spans, spanned, listing, page-done}
 use Rattle.rendering.proofs.render.Statement.{statement}
 use Rattle.rendering.proofs.render.Tie as tie
 
 ruleset returning = (too-long, not-good, too-few-definitions, conflict-found, too-deep, too-few-spans, page-done, needs)
 
-read-requires : tie.Need-read-requires
-read-requires c κs = search needs
+slice-aggregate-read-listed : tie.Need-slice-aggregate-read-listed
+slice-aggregate-read-listed c = search needs
 
-enum-known-x : tie.Need-enum-known-x
-enum-known-x c = search needs
+read-listed-requires : tie.Need-read-listed-requires
+read-listed-requires c κs = λ h. omega (arith, h, length-replicate {A = ℕ} 32769 0)
 
-enum-known-x-2 : tie.Need-enum-known-x-2
-enum-known-x-2 c = search needs
+enum-known-reading : tie.Need-enum-known-reading
+enum-known-reading c = search needs
 
-enum-known-n : tie.Need-enum-known-n
-enum-known-n c = search needs
+enum-known-reading-2 : tie.Need-enum-known-reading-2
+enum-known-reading-2 c = search needs
 
-enum-known-n-2 : tie.Need-enum-known-n-2
-enum-known-n-2 c = search needs
+enum-known-reading-3 : tie.Need-enum-known-reading-3
+enum-known-reading-3 c = search needs
 
-enum-known-k : tie.Need-enum-known-k
-enum-known-k c = search needs
+enum-known-reading-4 : tie.Need-enum-known-reading-4
+enum-known-reading-4 c = search needs
 
-enum-known-n-3 : tie.Need-enum-known-n-3
-enum-known-n-3 c = search needs
+enum-known-reading-5 : tie.Need-enum-known-reading-5
+enum-known-reading-5 c = search needs
 
-enum-known-d : tie.Need-enum-known-d
-enum-known-d c = search needs
+enum-known-reading-6 : tie.Need-enum-known-reading-6
+enum-known-reading-6 c = search needs
+
+enum-known-reading-7 : tie.Need-enum-known-reading-7
+enum-known-reading-7 c = search needs
+
+slice-aggregate-render-rows : tie.Need-slice-aggregate-render-rows
+slice-aggregate-render-rows c = search needs
 
 render-rows-requires : tie.Need-render-rows-requires
 render-rows-requires c κs =
-    let m = c .before .before .before .before .before .before .before .before .before .before .read .ensures in
-    let e = c .before .before .before .before .d .given .1 in
-    let p = c .before .before .before .before .before .before .before .before .before .before .before .before .before .before .before .before .before .before .args .page .now in
-    (spanned p m e, listing p m e)
+    let m = c .before .before .before .before .before .before .before .before .before .before .before .before .read-listed .ensures .0 in
+    let e = c .before .before .before .before .before .reading7 .given .1 in
+    let p = c .before .before .before .before .before .before .before .before .before .before .before .before .before .before .before .before .before .before .before .before .before .args .page .now in
+    (spanned p m e, (listing p m e, c .before .before .before .before .before .before .before .before .before .before .before .before .read-listed .ensures .1 (ap numberOf e)))
 
 same-length : tie.Need-same-length
 same-length c = search needs
@@ -107,14 +118,16 @@ pub render-spec : {M : Type 1} → statement M
 render-spec =
     tie.close
     (tie.spec
-    read-requires
-    enum-known-x
-    enum-known-x-2
-    enum-known-n
-    enum-known-n-2
-    enum-known-k
-    enum-known-n-3
-    enum-known-d
+    slice-aggregate-read-listed
+    read-listed-requires
+    enum-known-reading
+    enum-known-reading-2
+    enum-known-reading-3
+    enum-known-reading-4
+    enum-known-reading-5
+    enum-known-reading-6
+    enum-known-reading-7
+    slice-aggregate-render-rows
     render-rows-requires
     same-length
     same-length-2

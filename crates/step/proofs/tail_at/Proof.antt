@@ -41,22 +41,25 @@ part-own-end c = search needs
 
 tail-after-requires : tie.Need-tail-after-requires
 tail-after-requires c κs =
-    let s = c .before .before .before .before .before .before .before .before in
+    let s = c .before .before .before .before .before .before .before .before .before .before in
     let a = s .args in
     let p = s .pre in
-    (p .1 .0, lent (a .p .now) (a .closing) (p .0 .close-at) (p .0 .inside) (a .marks .now) (p .1 .1))
+    (p .1 .0, (p .1 .1 .0, lent (a .p .now) (a .closing) (p .0 .close-at) (p .0 .inside) (a .marks .now) (p .1 .1 .1)))
 
 same-length : tie.Need-same-length
 same-length c = search needs
 
+same-length-2 : tie.Need-same-length-2
+same-length-2 c = search needs
+
 returns : tie.Need-returns
 returns c =
-    let s = c .before .before .before .before .before .before .before .before .before .before .before in
+    let s = c .before .before .before .before .before .before .before .before .before .before .before .before .before .before .before in
     let a = s .args in
     let p = s .pre in
-    let told = c .before .before .tail-after .ensures in (
+    let told = c .before .before .before .before .tail-after .ensures in (
       told .0 (a .closing + 1) ∙ tail-here (a .p .now) (labelsIn (texts (a .note .now) (a .sheet .now)) (a .definitions .now) (a .count)) (a .from) (a .closing),
-      (told .1 .0, back (a .p .now) (a .closing) (p .0 .close-at) (p .0 .inside) (a .marks .now) _ _ (p .1 .1) (told .1 .1)),
+      (told .1 .0, (told .1 .1 .0, back (a .p .now) (a .closing) (p .0 .close-at) (p .0 .inside) (a .marks .now) _ _ (p .1 .1 .1) (told .1 .1 .1))),
     )
 
 pub tail-at-spec : {M : Type 1} → statement M
@@ -75,4 +78,5 @@ tail-at-spec =
     part-own-end
     tail-after-requires
     same-length
+    same-length-2
     returns)

@@ -22,13 +22,16 @@ same-length : tie.Need-same-length
 same-length c = search needs
 
 returns : tie.Need-returns
-returns c = let a = c .before .before .before .before .before .before .before .before .before .before .before .before .before .before .before .args in ((λ at. tail-by (texts (a .note .now) (a .sheet .now)) (a .definitions .now) (a .count) (a .text .now) (a .rest .now) at _ (sym (c .before .before .before .before .before .before .before .inline-tail .ensures .0) ∙ c .before .before .before .q .given .1)), ((λ at. refl), c .before .before .before .before .before .before .before .inline-tail .ensures .1))
+returns c = let a = c .before .before .before .before .before .before .before .before .before .before .before .before .before .before .before .before .args in ((λ at. tail-by (texts (a .note .now) (a .sheet .now)) (a .definitions .now) (a .count) (a .text .now) (a .rest .now) at _ (sym (c .before .before .before .before .before .before .before .inline-tail .ensures .0) ∙ c .before .before .before .q .given .1)), ((λ at. refl), (c .before .before .before .before .before .before .before .before .before .before .before .before .before .before .before .before .pre .1 .0, c .before .before .before .before .before .before .before .inline-tail .ensures .1)))
 
 same-length-2 : tie.Need-same-length-2
 same-length-2 c = search needs
 
+same-length-3 : tie.Need-same-length-3
+same-length-3 c = search needs
+
 returns-2 : tie.Need-returns-2
-returns-2 c = let a = c .before .before .before .before .before .before .before .before .before .before .before .before .before .args in ((λ at. c .reference .ensures .0 at ∙ tail-by (texts (a .note .now) (a .sheet .now)) (a .definitions .now) (a .count) (a .text .now) (a .rest .now) at _ (sym (c .before .before .before .before .before .inline-tail .ensures .0) ∙ c .before .enum-told .given .1)), (c .reference .ensures .1, c .before .before .before .before .before .inline-tail .ensures .1))
+returns-2 c = let a = c .before .before .before .before .before .before .before .before .before .before .before .before .before .before .before .before .before .args in ((λ at. c .before .before .reference .ensures .0 at ∙ tail-by (texts (a .note .now) (a .sheet .now)) (a .definitions .now) (a .count) (a .text .now) (a .rest .now) at _ (sym (c .before .before .before .before .before .before .before .before .inline-tail .ensures .0) ∙ c .before .before .before .before .enum-told .given .1)), (c .before .before .reference .ensures .1 .0, (c .before .before .reference .ensures .1 .1, c .before .before .before .before .before .before .before .before .inline-tail .ensures .1)))
 
 pub tail-after-spec : {M : Type 1} → statement M
 tail-after-spec =
@@ -41,4 +44,5 @@ tail-after-spec =
     same-length
     returns
     same-length-2
+    same-length-3
     returns-2)

@@ -1,27 +1,20 @@
 -- The place past the backticks is the same from every place passed.
 use borrow.Author.Needs.{needs}
-use borrow.Author.Tests.{eq-eqb, ne-eqb}
-use Prim.Native.Nat.{ℕ, _+_, _-_, _<_}
-use mathlib.Core.Path.{_≡_, refl}
-use mathlib.Core.List.{List}
-use lib.ListN.{length, getD}
+use mathlib.Core.Path.{_≡_, _∙_}
+use native.Mathlib.Omega.{arith}
+use Prim.Native.Nat.{_+_, _-_, _≤_}
+use lib.ListN.{length}
 use Rattle.scan.specs.Reading.{past}
-use Rattle.scan.proofs.Scan.{past-on, past-stop, past-end}
+use Rattle.scan.proofs.Scan.{past-end}
 use Rattle.inline.specs.Pieces.{backtick}
+use Rattle.ticks.proofs.Past.{tickStride, tick-strides, strides-low, tick-on, tick-stop}
 use Rattle.ticks.proofs.backticks_end.Statement.{statement}
 use Rattle.ticks.proofs.backticks_end.Tie as tie
 
-module _ (s : List ℕ) (i : ℕ) {r : ℕ} (inv : past backtick s i ≡ r) (h : i < length s) where
-  on : getD s i 0 ≡ 96 → past backtick s (i + 1) ≡ r
-  on e = past-on backtick s i inv h refl (eq-eqb (getD s i 0) 96 e)
-
-  stop : (getD s i 0 ≡ 96 → ⊥) → i ≡ r
-  stop e = past-stop backtick s i inv h refl (ne-eqb (getD s i 0) 96 e)
-
-ruleset turns = (on, stop, past-end, needs)
+ruleset turns = (tick-on, tick-stop, past-end, needs)
 
 abbrev Inv-loop : tie.InvT-loop
-Inv-loop s at i₀ i = past backtick s i ≡ past backtick s at
+Inv-loop s at i₀ i = (at ≤ i) × (past backtick s i ≡ past backtick s at)
 
 abbrev μ-loop : tie.MeasureT-loop
 μ-loop s at i₀ i = length s - i
@@ -38,11 +31,31 @@ returns c = search (turns, c .if1 .taken)
 add-i : tie.Need-add-i Inv-loop μ-loop
 add-i c = search turns
 
+sub-if2 : tie.Need-sub-if2 Inv-loop μ-loop
+sub-if2 c = search turns
+
+past-strides-requires : tie.Need-past-strides-requires Inv-loop μ-loop
+past-strides-requires c κs = search turns
+
 loop-less : tie.Need-loop-less Inv-loop μ-loop
-loop-less c = search turns
+loop-less c =
+    let b = c .before .before .before .before .before in
+    omega (arith, c .before .before .before .before .loop-test .taken, strides-low (b .before .before .args .s .now) (b .loop .i + 1) tickStride (c .past-strides .ensures))
 
 loop-again : tie.Need-loop-again Inv-loop μ-loop
-loop-again c = search turns
+loop-again c =
+    let b = c .before .before .before .before .before in
+    let s = b .before .before .args .s .now in
+    let i = b .loop .i in (
+      omega (arith, b .loop .inv .0, strides-low s (i + 1) tickStride (c .past-strides .ensures)),
+      tick-strides s (i + 1) (c .past-strides .ensures) ∙ tick-on s i (c .before .before .before .before .loop-test .taken) (b .loop .inv .1) (c .before .before .if1 .left),
+    )
+
+loop-less-2 : tie.Need-loop-less-2 Inv-loop μ-loop
+loop-less-2 c = search turns
+
+loop-again-2 : tie.Need-loop-again-2 Inv-loop μ-loop
+loop-again-2 c = search turns
 
 returns-2 : tie.Need-returns-2 Inv-loop μ-loop
 returns-2 c = search turns
@@ -57,6 +70,10 @@ backticks-end-spec =
     shared-slice-read-if1
     returns
     add-i
+    sub-if2
+    past-strides-requires
     loop-less
     loop-again
+    loop-less-2
+    loop-again-2
     returns-2)

@@ -1,25 +1,26 @@
 -- Each turn writes a paragraph.
 use Prim.Native.Nat.{_-_}
+use native.Mathlib.Omega.{arith}
 use lib.ListN.{length}
 use borrow.Author.Needs.{needs}
 use Rattle.texts.specs.Texts.{texts}
-use Rattle.writer.proofs.Pages.{Pages, pages, all-written, less, starts, further}
+use Rattle.writer.proofs.Pages.{Pages, pages, all-written, less, starts, below, further}
 use Rattle.writer.proofs.write_page.Statement.{statement}
 use Rattle.writer.proofs.write_page.Tie as tie
 
 ruleset turns = (pages, all-written, starts, further, needs)
 
 abbrev Inv-loop : tie.InvT-loop
-Inv-loop note sheet definitions spans count starts page₀ next₀ p₀ page next p = Pages (texts note sheet) page₀ page next p
+Inv-loop note sheet definitions spans count starts list paragraphs page₀ k₀ next₀ p₀ page k next p = Pages (texts note sheet) list paragraphs page₀ page k next p
 
 abbrev μ-loop : tie.MeasureT-loop
-μ-loop note sheet definitions spans count starts page₀ next₀ p₀ page next p = length note - next
+μ-loop note sheet definitions spans count starts list paragraphs page₀ k₀ next₀ p₀ page k next p = length note - next
 
 loop-holds : tie.Need-loop-holds Inv-loop μ-loop
 loop-holds c = search turns
 
-next-paragraph-requires : tie.Need-next-paragraph-requires Inv-loop μ-loop
-next-paragraph-requires c κs = search turns
+next-listed-requires : tie.Need-next-listed-requires Inv-loop μ-loop
+next-listed-requires c κs = (c .before .before .before .before .before .before .before .before .pre .1 .1 .1, (c .loop .inv .among, c .loop .inv .looked))
 
 enum-known-start : tie.Need-enum-known-start Inv-loop μ-loop
 enum-known-start c = search turns
@@ -35,11 +36,14 @@ returns c = search turns
 
 write-paragraph-requires : tie.Need-write-paragraph-requires Inv-loop μ-loop
 write-paragraph-requires c κs =
-    let a = c .before .before .before .before .before .before .before .before .before .before .before .before .pre in
-    (a .0, (a .1 .0, (a .1 .1, starts (c .before .before .before .before .before .loop .inv) (c .before .before .before .before .next-paragraph .ensures) (c .before .before .start .given .1) (a .0))))
+    let a = c .before .before .before .before .before .before .before .before .before .before .before .before .before .pre in
+    (a .0, (a .1 .0, (a .1 .1 .0, starts (c .before .before .before .before .before .loop .inv) (c .before .before .before .before .next-listed .ensures .0) (c .before .before .start .given .1) (a .0))))
+
+add-k : tie.Need-add-k Inv-loop μ-loop
+add-k c = omega (arith, below (c .before .before .before .before .before .before .before .before .loop .inv) (c .before .before .before .before .before .before .before .next-listed .ensures .0) (c .before .before .before .before .before .start .given .1) (c .before .before .before .before .before .before .before .next-listed .ensures .1))
 
 loop-less : tie.Need-loop-less Inv-loop μ-loop
-loop-less c = less (c .before .before .before .before .before .before .before .before .loop .inv) (c .before .before .before .before .before .before .before .next-paragraph .ensures) (c .before .before .before .before .before .start .given .1)
+loop-less c = less (c .before .before .before .before .before .before .before .before .loop .inv) (c .before .before .before .before .before .before .before .next-listed .ensures .0) (c .before .before .before .before .before .start .given .1)
 
 loop-again : tie.Need-loop-again Inv-loop μ-loop
 loop-again c = search turns
@@ -51,11 +55,12 @@ write-page-spec =
     Inv-loop
     μ-loop
     loop-holds
-    next-paragraph-requires
+    next-listed-requires
     enum-known-start
     enum-told
     same-length
     returns
     write-paragraph-requires
+    add-k
     loop-less
     loop-again)

@@ -1,0 +1,3 @@
+pub mod Labels
+pub mod Search
+pub mod Claims

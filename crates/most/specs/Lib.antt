@@ -1,0 +1,3 @@
+pub mod Most
+pub mod Counting
+pub mod Samples
