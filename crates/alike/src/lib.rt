@@ -2,6 +2,8 @@
 // ASCII, and characters that are the same bytes, need no table. From the first other character on the table tells what each folds to: it is
 // lent, since a constant array is built anew at each use. Two loops go over the steps without it: the lookup's (row::lookup_bytes), and
 // the one of `same_label`.
+#![tactic(auto)]
+
 ghost use Rattle.std.specs.Prelude.{◌≡◌, false, ◌<◌, length, get_or};
 ghost use Rattle.scan.specs.Byte.{blank};
 ghost use Rattle.scan.specs.Reading.{past};
@@ -149,7 +151,7 @@ pub fn shared(a: &[u8], b: &[u8], p: usize, q: usize, x: u8, y: u8) -> usize
 
 // A byte of a compared form, or 256 at its end; the place to read on from; and the bytes of a folded character that come before that,
 // the first lowest.
-#[derive(Drop)]
+#[derive(Clone, Copy)]
 pub struct Next {
     pub byte: u64,
     pub at: usize,

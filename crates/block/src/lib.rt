@@ -1,4 +1,6 @@
 // Lines, blank lines and blocks of a note.
+#![tactic(auto)]
+
 ghost use Rattle.std.specs.Prelude.{◌≡◌, ◌+◌, drop};
 ghost use Rattle.scan.specs.Reading.{past};
 ghost use Rattle.block.specs.Line.{padding};

@@ -1,5 +1,7 @@
 // Writing to a page that may be too short: each function writes from `n` on what fits, and returns the length of what is written
 // by then, with what did not fit. On an empty page it measures.
+#![tactic(auto)]
+
 ghost use Rattle.std.specs.Prelude.{◌≡◌, [], ◌∷◌, length, ◌+◌, ◌≤◌};
 ghost use Rattle.buffer.specs.Stored.{page_most, fitting, Writes};
 

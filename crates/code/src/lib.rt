@@ -1,4 +1,6 @@
 // A code span on the page.
+#![tactic(auto)]
+
 ghost use Rattle.std.specs.Prelude.{◌≡◌, length, ◌+◌, ◌≤◌};
 ghost use mathlib.Core.List.{map, flat_map};
 ghost use Rattle.scan.specs.Reading.{run};

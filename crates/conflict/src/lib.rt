@@ -1,4 +1,6 @@
 // Definitions that conflict: equal labels, and another destination or title.
+#![tactic(auto)]
+
 ghost use Rattle.std.specs.Prelude.{◌≡◌, ◌<◌, length, take};
 ghost use Rattle.texts.specs.Texts.{texts, text_of};
 ghost use Rattle.matching.specs.Reading.{equals};

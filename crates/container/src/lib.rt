@@ -2,6 +2,7 @@
 // with a line end. The header line is six decimal numbers of six digits and one digit, with a space between them: how many numbers are lent
 // to the definition table, how many to the span table, how many bytes to the page, how many bytes the note has, how many the sheet, how
 // many the label; and the release setting, 0 no, 1 yes.
+#![tactic(auto)]
 
 ghost use Rattle.std.specs.Prelude.{◌≡◌};
 ghost use Rattle.container.specs.Container.{number_from, setting, ruled, header_of, line_of};
@@ -11,7 +12,7 @@ pub const HEADER: usize = 44;
 
 // The numbers lent to each table, the bytes lent to the page, the lengths of the note, the sheet and the label, and whether they are for a
 // release.
-#[derive(Drop)]
+#[derive(Clone, Copy)]
 pub struct Sizes {
     pub definitions: usize,
     pub spans: usize,
@@ -23,14 +24,14 @@ pub struct Sizes {
 }
 
 // A decimal number, or bytes that are none.
-#[derive(Drop)]
+#[derive(Clone, Copy)]
 pub enum Number {
     Of(usize),
     Bad,
 }
 
 // What a header line says.
-#[derive(Drop)]
+#[derive(Clone, Copy)]
 pub enum Header {
     Case(Sizes),
     Bad,

@@ -1,5 +1,7 @@
 // Where span rows call for something on the page. A table tells for each place of the note which row starts there; beside it a cursor into
 // the span table, which never goes back, tells the next link or image whose text ends.
+#![tactic(auto)]
+
 ghost use Rattle.std.specs.Prelude.{◌≡◌, ℕ, ◌+◌, ◌≤◌, ◌<◌, length, replicate};
 ghost use Rattle.scan.specs.Reading.{past, runs, past_strides};
 ghost use Rattle.span.specs.Row.{numbers_on, whole_rows};

@@ -1,4 +1,6 @@
 // Link reference definitions of a note, and its paragraphs.
+#![tactic(auto)]
+
 ghost use Rattle.std.specs.Prelude.{◌≡◌};
 ghost use Rattle.scan.specs.Reading.{past};
 ghost use Rattle.definition.specs.Definition.{space};
@@ -9,7 +11,7 @@ use scan::Found;
 use target::Part;
 
 // A definition and the place after its line, or none.
-#[derive(Drop)]
+#[derive(Clone, Copy)]
 pub enum Entry {
     Defined(Definition, usize),
     Nothing,

@@ -1,4 +1,6 @@
 // The enquiry: the destination that a note and the sheet beside it give to a label.
+#![tactic(auto)]
+
 ghost use Rattle.std.specs.Prelude.{◌≡◌};
 ghost use Rattle.texts.specs.Texts.{texts};
 ghost use Rattle.enquiry.specs.Enquiry.{number_of, value_of, named_of};
@@ -12,7 +14,7 @@ use walk::{Cursor, Next};
 
 // The answer: the text of the destination with its start and end there, or a refusal with what is returned with it, 1 and 2 with
 // their text first.
-#[derive(Drop)]
+#[derive(Clone, Copy)]
 pub enum Enquiry {
     Destination(usize, usize, usize),
     Long(usize, usize),

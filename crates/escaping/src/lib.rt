@@ -1,4 +1,6 @@
 // Text and titles on the page: escapes lose their backslash, four characters are replaced.
+#![tactic(auto)]
+
 ghost use Rattle.std.specs.Prelude.{◌≡◌, length, drop, ◌+◌, ◌≤◌, ◌<◌};
 ghost use Rattle.scan.specs.Reading.{past};
 ghost use Rattle.buffer.specs.Stored.{page_most, Writes};

@@ -1,5 +1,7 @@
 // The quick lookup of a label, in an index that is built when it pays. The slow lookup is its meaning: it finds the same row, and none exactly when
 // the slow one finds none.
+#![tactic(auto)]
+
 ghost use Rattle.std.specs.Prelude.{◌≡◌};
 ghost use Rattle.texts.specs.Texts.{texts};
 ghost use Rattle.row.specs.Reading.{Fit, row_of};

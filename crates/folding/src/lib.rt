@@ -1,4 +1,6 @@
 // What a character of two bytes folds to, as one number that holds its bytes; and A to Z as a to z.
+#![tactic(auto)]
+
 ghost use Rattle.std.specs.Prelude.{◌<◌, ◌≡◌, true, get_or};
 ghost use Rattle.casefold.specs.Table.{table};
 ghost use Rattle.casefold.specs.Fold.{lower};

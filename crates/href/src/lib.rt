@@ -1,4 +1,6 @@
 // The destination of a link in its href, and that of an image in its src.
+#![tactic(auto)]
+
 ghost use Rattle.std.specs.Prelude.{◌≡◌, length, ◌+◌, ◌≤◌, ◌<◌};
 ghost use Rattle.buffer.specs.Stored.{page_most, Writes};
 ghost use Rattle.href.specs.Href.{stays, hex_digit, percent, href_byte};

@@ -1,4 +1,6 @@
 // The opening tag of a link, and the tag of an image.
+#![tactic(auto)]
+
 ghost use Rattle.std.specs.Prelude.{length, ◌+◌, ◌≤◌};
 ghost use Rattle.buffer.specs.Stored.{page_most, Writes};
 ghost use Rattle.html.specs.Reading.{title_attribute, link_open, image_open, image_close};

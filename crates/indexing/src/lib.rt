@@ -1,4 +1,6 @@
 // The entries of an index, and whether they are in order and whole.
+#![tactic(auto)]
+
 ghost use Rattle.std.specs.Prelude.{◌≡◌, true, ◌+◌, ◌≤◌, ◌<◌, length};
 ghost use Rattle.texts.specs.Texts.{texts};
 ghost use Rattle.row.specs.Reading.{Fit};

@@ -1,4 +1,6 @@
 // Pieces, tails and spans of a paragraph.
+#![tactic(auto)]
+
 ghost use Rattle.std.specs.Prelude.{◌≡◌};
 ghost use Rattle.scan.specs.Reading.{past};
 ghost use Rattle.inline.specs.ReadingPieces.{quiet};
@@ -6,7 +8,7 @@ ghost use Rattle.inline.specs.ReadingPieces.{quiet};
 use row::Range;
 
 // The length of an inline link's tail, and where its destination and its title stand in it. An absent part is 0 and 0.
-#[derive(Drop)]
+#[derive(Clone, Copy)]
 pub struct InlineParts {
     pub size: usize,
     pub destination: Range,
@@ -14,7 +16,7 @@ pub struct InlineParts {
 }
 
 // What follows a closing bracket, read as an inline link's tail.
-#[derive(Drop)]
+#[derive(Clone, Copy)]
 pub enum InlineTail {
     Parts(InlineParts),
     Nothing,

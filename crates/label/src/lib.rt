@@ -1,4 +1,6 @@
 // Link labels: where one ends, and whether bytes are one.
+#![tactic(auto)]
+
 ghost use Rattle.std.specs.Prelude.{◌≡◌, ◌≤◌, ◌<◌, length, drop, leb};
 ghost use Rattle.text.specs.Sequences.{starting, characters};
 ghost use Rattle.label.specs.Label.{label_limit};

@@ -1,9 +1,11 @@
 // The line on which a place of a text stands, line after line from an earlier one on.
+#![tactic(auto)]
+
 ghost use Rattle.std.specs.Prelude.{◌≡◌, ◌<◌, length};
 ghost use Rattle.line.specs.Promise.{none, line_at, Before};
 
 // A line: its number, from 1, and the place after it, past its LF.
-#[derive(Drop)]
+#[derive(Clone, Copy)]
 pub struct Line {
     pub number: usize,
     pub end: usize,

@@ -1,4 +1,6 @@
 // The row of a link or an image.
+#![tactic(auto)]
+
 ghost use Rattle.std.specs.Prelude.{◌≡◌, ◌+◌, ◌<◌, ◌^◌};
 ghost use Rattle.row.specs.Row.{SmallPart};
 ghost use Rattle.row.specs.Reading.{definitions_from};

@@ -1,11 +1,13 @@
 // How many spans a paragraph can have at the most, and how many brackets can be open in it at once, told by its bytes alone: where both fit, its rows can
 // be stored in the pass that finds them.
+#![tactic(auto)]
+
 ghost use Rattle.std.specs.Prelude.{◌≡◌, ◌+◌, ◌<◌, ◌^◌, length};
 ghost use Rattle.most.specs.Counting.{bracket, ends_mark, with_mark};
 ghost use Rattle.most.specs.Most.{bit, ends, held};
 
 // Marks with which a span may end, and brackets that may stay open.
-#[derive(Drop)]
+#[derive(Clone, Copy)]
 pub struct Most {
     pub ends: usize,
     pub held: usize,
@@ -37,7 +39,7 @@ fn plus_one_if(n: usize, yes: bool) -> usize
 }
 
 // What was counted so far, and the last bracket, backtick or backslash that was passed.
-#[derive(Drop)]
+#[derive(Clone, Copy)]
 struct Counted {
     last: u8,
     ends: usize,

@@ -1,4 +1,6 @@
 // The reader of a notice, with a sheet of definitions beside it.
+#![tactic(auto)]
+
 pub mod answer;
 
 ghost use Rattle.std.specs.Prelude.{◌≡◌, ◌≤◌, ◌<◌, length};
@@ -21,7 +23,7 @@ use scan::Found;
 use texts::Checked;
 
 // What the reader answers: the counts of definitions and spans, or a refusal with its value; 1 and 2 with the text that they are about before it.
-#[derive(Drop)]
+#[derive(Clone, Copy)]
 pub enum Reading {
     Read(usize, usize),
     Long(usize, usize),
@@ -33,7 +35,7 @@ pub enum Reading {
 }
 
 // What the reader answers, and how many paragraphs it has listed.
-#[derive(Drop)]
+#[derive(Clone, Copy)]
 pub struct Listed {
     pub reading: Reading,
     pub paragraphs: usize,

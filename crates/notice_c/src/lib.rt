@@ -1,4 +1,6 @@
 // The entries for callers in C and Rust. A slice is a pointer and a length there, the answer a pointer to its numbers (include/notice.h).
+#![tactic(auto)]
+
 ghost use Rattle.texts.specs.Texts.{texts};
 ghost use Rattle.notice_c.specs.Read.{ReadPromise};
 ghost use Rattle.notice_c.specs.Render.{RenderPromise};

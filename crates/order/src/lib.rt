@@ -1,1 +1,2 @@
 // No function: the order stands in specs/, its laws in proofs/; `ranking` has the code.
+#![tactic(auto)]

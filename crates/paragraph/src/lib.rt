@@ -1,4 +1,6 @@
 // The spans of one paragraph, read from left to right.
+#![tactic(auto)]
+
 ghost use Rattle.std.specs.Prelude.{◌≡◌};
 ghost use Rattle.texts.specs.Texts.{texts};
 ghost use Rattle.row.specs.First.{bytes_of};
@@ -21,7 +23,7 @@ pub const STACK: usize = 2 * DEPTH_LIMIT;
 
 // What the reading of paragraphs answers: the place of the first bracket too many; or where the walk stands at the end, which tells the
 // row after the last span's and the last line that was asked for.
-#[derive(Drop)]
+#[derive(Clone, Copy)]
 pub enum Tally {
     Deep(usize),
     Spans(Walk),

@@ -1,4 +1,6 @@
 // The paragraphs of a note, read one after the other.
+#![tactic(auto)]
+
 ghost use Rattle.std.specs.Prelude.{◌≡◌, true, ◌<◌, ◌^◌, length};
 ghost use Rattle.texts.specs.Texts.{texts};
 ghost use Rattle.index.specs.Index.{Ready as Indexed};

@@ -1,5 +1,7 @@
 // Opening parentheses that nothing closes, and link destinations that are given up at the first. However many destinations a text has that
 // leave a parenthesis open, what they are searched in is read once.
+#![tactic(auto)]
+
 ghost use Rattle.std.specs.Prelude.{◌≡◌, false, ◌&&◌, ◌+◌, ◌≤◌, ◌<◌, ◌^◌, length, get_or, drop};
 ghost use Rattle.target.specs.Reading.{raw_run, judged, destination_of};
 ghost use Rattle.parens.specs.Unclosed.{slashed, parenthesis, closers_before, unclosed, mark_of, Marks, Prepared};

@@ -1,4 +1,6 @@
 // An order on link labels by their compared forms, and a key of each form. Both are read off the label with no copy, as labels are compared.
+#![tactic(auto)]
+
 ghost use Rattle.std.specs.Prelude.{◌≡◌, ◌<◌};
 ghost use Rattle.casefold.specs.Table.{table};
 ghost use Rattle.matching.specs.Reading.{compared};

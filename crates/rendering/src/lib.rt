@@ -1,4 +1,6 @@
 // The page writer: a note's HTML.
+#![tactic(auto)]
+
 ghost use Rattle.std.specs.Prelude.{◌≡◌, length};
 ghost use Rattle.texts.specs.Texts.{texts};
 ghost use Rattle.joined.specs.Reading.{Listing};
@@ -13,7 +15,7 @@ use notice::Reading;
 
 // What the page writer answers: the counts of definitions and spans and the HTML's length, or a refusal with its value; 1 and 2 with the text that they are
 // about before it.
-#[derive(Drop)]
+#[derive(Clone, Copy)]
 pub enum Rendering {
     Rendered(usize, usize, usize),
     Long(usize, usize),

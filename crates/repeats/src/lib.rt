@@ -1,4 +1,6 @@
 // The first definition that conflicts, by an index: a label is looked up only where it can repeat one before it. The slow search is the meaning.
+#![tactic(auto)]
+
 ghost use Rattle.std.specs.Prelude.{◌≡◌, true, ◌+◌, ◌<◌, length};
 ghost use Rattle.texts.specs.Texts.{texts};
 ghost use Rattle.row.specs.Reading.{Fit};

@@ -1,4 +1,6 @@
 // What the program `samples` writes. No contract can say what a call of C's writes, so these say only that they are safe and end.
+#![tactic(auto)]
+
 ghost use Rattle.std.specs.Prelude.{◌<◌, ◌≤◌};
 
 use libc::STDOUT_FILENO;

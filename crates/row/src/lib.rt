@@ -1,4 +1,6 @@
 // The definition table: rows of eight 32-bit numbers in a lent slice, and the lookup of a label in it.
+#![tactic(auto)]
+
 ghost use Rattle.std.specs.Prelude.{◌≡◌, ◌+◌, ◌<◌, ◌^◌, length, get_or};
 ghost use Rattle.texts.specs.Texts.{texts, text_of};
 ghost use Rattle.row.specs.First.{bytes_of};
@@ -9,14 +11,14 @@ ghost use Rattle.row.specs.Reading.{range_at, text_at, definition_at, label_at, 
 use scan::Found;
 
 // A part of a text: where it starts, and where it ends. An absent part is 0 and 0.
-#[derive(Drop)]
+#[derive(Clone, Copy)]
 pub struct Range {
     pub start: usize,
     pub end: usize,
 }
 
 // The parts of a link reference definition, without their delimiters.
-#[derive(Drop)]
+#[derive(Clone, Copy)]
 pub struct Definition {
     pub label: Range,
     pub destination: Range,

@@ -1,1 +1,2 @@
 // No function: what a table of rows holds is in specs/, the theorems in proofs/.
+#![tactic(auto)]

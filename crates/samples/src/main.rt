@@ -1,6 +1,8 @@
 // Runs the four entries on the cases of standard input (crate container). Prints the reader's answer with both tables whole, the page
 // writer's with both tables and the page buffer whole, the enquiry's with the part that it hands back, and whether the note's bytes
 // and the label's are equal as labels. What is lent and not written shows as the guard.
+#![tactic(auto)]
+
 ghost use Rattle.std.specs.Prelude.{◌≤◌, ◌≡◌, length};
 ghost use Rattle.container.specs.Container.{Lendable, Framed};
 

@@ -1,10 +1,12 @@
 // Kinds of bytes, escapes, and the first unescaped delimiter.
+#![tactic(auto)]
+
 ghost use Rattle.std.specs.Prelude.{◌≡◌, ◌+◌, ◌≤◌, length, get_or, drop};
 ghost use Rattle.scan.specs.Byte.{punctuation, blank, escapes};
 ghost use Rattle.scan.specs.Reading.{clear, like, runs, past_strides, closing};
 
 // A place, or none.
-#[derive(Drop)]
+#[derive(Clone, Copy)]
 pub enum Found {
     At(usize),
     Nothing,

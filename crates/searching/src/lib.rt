@@ -1,4 +1,6 @@
 // Where a label stands in an index: its bucket's places, and the search among them.
+#![tactic(auto)]
+
 ghost use Rattle.std.specs.Prelude.{◌≡◌, true, ◌≤◌, ◌<◌};
 ghost use Rattle.texts.specs.Texts.{texts};
 ghost use Rattle.matching.specs.Reading.{compared, matches};
@@ -9,14 +11,14 @@ ghost use Rattle.index.specs.Index.{key_in, entry_at, form_of, row_at, Sorted, F
 use row::Definition;
 
 // Places in an index from `lo` to `hi`.
-#[derive(Drop)]
+#[derive(Clone, Copy)]
 pub struct Places {
     pub lo: usize,
     pub hi: usize,
 }
 
 // A place in an index, and whether what stands there is what was looked for.
-#[derive(Drop)]
+#[derive(Clone, Copy)]
 pub struct Spot {
     pub at: usize,
     pub same: bool,

@@ -1,4 +1,6 @@
 // The span table: rows of eleven 32-bit numbers in a lent slice.
+#![tactic(auto)]
+
 ghost use Rattle.std.specs.Prelude.{◌≡◌, ◌+◌, ◌<◌, ◌^◌, length};
 ghost use Rattle.row.specs.Row.{SmallPart};
 ghost use Rattle.span.specs.Row.{code_span_row, inline_row, reference_row, full_row, collapsed_row, shortcut_row, inline_image_row, full_image_row, collapsed_image_row, shortcut_image_row, Small, whole_rows, stored_half, stored_on};
@@ -8,7 +10,7 @@ use row::Range;
 
 // A code span, a link or an image: its kind, from where to where it runs, the text between its backtick strings or brackets, the
 // number of its definition (from 1; 0 if none), and its target.
-#[derive(Drop)]
+#[derive(Clone, Copy)]
 pub struct Span {
     pub kind: u32,
     pub whole: Range,

@@ -1,4 +1,6 @@
 // Past one piece of a paragraph: what it comes to, and the row of the span that ends with it.
+#![tactic(auto)]
+
 ghost use Rattle.std.specs.Prelude.{◌≡◌, cond, ◌+◌, ◌<◌, length};
 ghost use Rattle.texts.specs.Texts.{texts};
 ghost use Rattle.row.specs.Reading.{Fit, definitions_from};
@@ -17,7 +19,7 @@ use tail::Ending;
 
 // Where the reading stands: its place, the place of the last link's `[` (0 where there is none yet), the next span's row, how many
 // brackets are open, and the last line that was asked for.
-#[derive(Drop)]
+#[derive(Clone, Copy)]
 pub struct Walk {
     pub at: usize,
     pub last: usize,

@@ -1,4 +1,6 @@
 // The definition table of a note and the sheet beside it, and the list of the note's paragraphs.
+#![tactic(auto)]
+
 ghost use Rattle.std.specs.Prelude.{◌≡◌, ◌+◌, ◌≤◌, ◌<◌, ◌^◌, ltb, length};
 ghost use Rattle.line.specs.Promise.{line_if, Before};
 ghost use Rattle.definition.specs.Reading.{definitions};
@@ -13,7 +15,7 @@ use row::Definition;
 use walk::{Cursor, Item};
 
 // How many definitions there are in both texts, and how many paragraphs in the note.
-#[derive(Drop)]
+#[derive(Clone, Copy)]
 pub struct Filled {
     pub definitions: usize,
     pub paragraphs: usize,

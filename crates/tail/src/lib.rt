@@ -1,4 +1,6 @@
 // The tail of a link: what follows the closing bracket of a pair, read on its own.
+#![tactic(auto)]
+
 ghost use Rattle.std.specs.Prelude.{◌≡◌, ℕ};
 ghost use Rattle.texts.specs.Texts.{texts};
 ghost use Rattle.parens.specs.Unclosed.{Prepared};
@@ -13,7 +15,7 @@ use scan::Found;
 use target::Part;
 
 // What a tail gives its link. A definition is named by its row, from 0.
-#[derive(Drop)]
+#[derive(Clone, Copy)]
 pub enum Way {
     // Where the destination and the title stand in the tail. An absent part is 0 and 0.
     Parts(Range, Range),
@@ -23,14 +25,14 @@ pub enum Way {
 }
 
 // A tail as it is read: how many bytes it takes up, and what it gives.
-#[derive(Drop)]
+#[derive(Clone, Copy)]
 pub struct ReadTail {
     pub length: usize,
     pub way: Way,
 }
 
 // What follows the closing bracket of a pair: a tail, or none.
-#[derive(Drop)]
+#[derive(Clone, Copy)]
 pub enum Ending {
     With(ReadTail),
     Nothing,

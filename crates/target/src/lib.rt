@@ -1,18 +1,20 @@
 // Link destination, link title, and the space that separates them.
+#![tactic(auto)]
+
 ghost use Rattle.std.specs.Prelude.{◌≡◌, false, drop, ◌+◌, ◌<◌, ◌^◌};
 ghost use Rattle.target.specs.Reading.{space_run, halts, depth_after, raw_run, judged, enclosed_of, destination_of, closer, title_of};
 
 use scan::Found;
 
 // Start and end of the content, without delimiters, and the place after the whole.
-#[derive(Drop)]
+#[derive(Clone, Copy)]
 pub enum Part {
     Span(usize, usize, usize),
     Nothing,
 }
 
 // Where a run ends, and how many parentheses it leaves open.
-#[derive(Drop)]
+#[derive(Clone, Copy)]
 pub struct Run {
     pub end: usize,
     pub depth: usize,

@@ -1,4 +1,6 @@
 // Well-formed UTF-8, the note's length limit, and counting characters.
+#![tactic(auto)]
+
 ghost use Rattle.std.specs.Prelude.{◌≡◌, drop};
 ghost use Rattle.text.specs.Sequences.{leading_ones, sequence_length};
 ghost use Rattle.text.specs.Reading.{character_length, good_length, past_ascii, first_bad, lead, least, most, second, continuation};
@@ -10,7 +12,7 @@ use scan::Found;
 pub const NOTE_LIMIT: usize = 32768;
 
 // What a note's bytes are: good, too long (the length), or bad (the place where no good character starts).
-#[derive(Drop)]
+#[derive(Clone, Copy)]
 pub enum Checked {
     Good,
     Long(usize),

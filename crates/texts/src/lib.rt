@@ -1,4 +1,6 @@
 // The two texts that are lent, the note and the sheet beside it: their numbers, and refusals 1 and 2 over both.
+#![tactic(auto)]
+
 ghost use Rattle.texts.specs.Texts.{texts};
 ghost use Rattle.texts.specs.Promise.{Promise};
 
@@ -8,7 +10,7 @@ pub const NOTE: usize = 0;
 pub const SHEET: usize = 1;
 
 // Refusal 1 or 2, with the text's number and what is returned with it, or neither.
-#[derive(Drop)]
+#[derive(Clone, Copy)]
 pub enum Checked {
     Good,
     Long(usize, usize),

@@ -1,4 +1,6 @@
 // Where the last run of each length ends, so that a search for a run that is not there need not be made.
+#![tactic(auto)]
+
 ghost use Rattle.std.specs.Prelude.{◌≡◌, false, ◌<◌, ◌^◌, length, get_or, drop, set};
 ghost use Rattle.scan.specs.Reading.{past};
 ghost use Rattle.inline.specs.Pieces.{backtick};

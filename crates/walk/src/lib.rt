@@ -1,4 +1,6 @@
 // A note's definitions one after the other, and its paragraphs one after the other.
+#![tactic(auto)]
+
 ghost use Rattle.std.specs.Prelude.{◌≡◌, ◌+◌, ◌*◌, ◌≤◌, ◌<◌, ◌^◌, set};
 ghost use Rattle.definition.specs.Reading.{definitions_from};
 ghost use Rattle.walk.specs.Reading.{from, remembered};
@@ -11,35 +13,35 @@ use row::Definition;
 pub const LIST: usize = text::NOTE_LIMIT + 1;
 
 // The start of a block and its end, or none.
-#[derive(Drop)]
+#[derive(Clone, Copy)]
 enum Block {
     At(usize, usize),
     End,
 }
 
 // Reading stands at place `at` of the block that ends at place `end`; between blocks the two are equal.
-#[derive(Drop)]
+#[derive(Clone, Copy)]
 pub struct Cursor {
     pub at: usize,
     pub end: usize,
 }
 
 // A definition and where reading stands after it, or none.
-#[derive(Drop)]
+#[derive(Clone, Copy)]
 pub enum Next {
     Definition(Definition, Cursor),
     End,
 }
 
 // The start of a paragraph, its end, and the end of its block; or none.
-#[derive(Drop)]
+#[derive(Clone, Copy)]
 pub enum Paragraph {
     At(usize, usize, usize),
     End,
 }
 
 // A definition, or a paragraph's start and end, with where reading stands after it; or none.
-#[derive(Drop)]
+#[derive(Clone, Copy)]
 pub enum Item {
     Definition(Definition, Cursor),
     Paragraph(usize, usize, Cursor),

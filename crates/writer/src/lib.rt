@@ -1,5 +1,7 @@
 // The page of a note, written from the rows of both tables in one pass over its bytes, with a table of the places where rows start. What does
 // not fit into the page is counted and not stored.
+#![tactic(auto)]
+
 ghost use Rattle.std.specs.Prelude.{◌≡◌, ◌+◌, ◌≤◌, length};
 ghost use Rattle.scan.specs.Member.{In};
 ghost use Rattle.texts.specs.Texts.{texts};
@@ -19,7 +21,7 @@ use walk::Paragraph;
 
 // Where the pass stands: the place in the note, the row of the next link or image whose text ends, and the length of what is written by
 // then.
-#[derive(Drop)]
+#[derive(Clone, Copy)]
 struct Pass {
     at: usize,
     close: usize,
