@@ -12,8 +12,8 @@ import collections, os, pathlib, re, shutil, subprocess, sys, tempfile
 PORT = "/opt/rattle/port/port.py"
 STRING = r'"(?:[^"\\]|\\.)*"'
 WORD = r"[A-Za-zμκ«][A-Za-z0-9_\-·'′?₀-₉»]*"
-# A string, a comment, an operator with holes, or a word.
-TOKEN = re.compile(rf"({STRING})|((?:^|(?<=\s))--(?:\s.*)?$|//.*$)|(\S*◌\S*)|({WORD})", re.M)
+# A string, a comment, an operator with holes or a numeral in hexadecimals, or a word.
+TOKEN = re.compile(rf"({STRING})|((?:^|(?<=\s))--(?:\s.*)?$|//.*$)|(\S*◌\S*|0x[0-9A-Fa-f]+)|({WORD})", re.M)
 # Where a lemma, a field or a parameter would come to the name of a function: lemmas take _lem, the others these.
 OTHERWISE = {
     "code-close": "closing_code", "code-open": "opening_code", "link-close": "closing_link", "link-open": "opening_link",
@@ -33,7 +33,6 @@ BESIDE = {
     "link/proofs/PairRows": "pair_row", "note/proofs/Rows": "rows_in", "tail/proofs/Tails": "full_by",
     "text/proofs/Character": "good_length", "walk/proofs/Steps": "block_here",
 }
-HEX = re.compile(r"0x[0-9A-Fa-f]+")
 
 
 def crate_called_target(root):
@@ -135,7 +134,7 @@ def turned(text, kept, seen=None):
         return word_of(word)
 
     def word_of(word):
-        if word in kept or HEX.match(word):
+        if word in kept:
             return word
         new = respelled(word)
         if seen is not None:

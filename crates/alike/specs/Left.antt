@@ -29,7 +29,7 @@ pub record Opens (s : List ℕ) (p byte at left : ℕ) : Type 0 where
 
 -- a byte that begins a character of two bytes that the table may have
 abbrev pub leads : ℕ → Bool
-leads x = within 0x_c2 0x_d4 x
+leads x = within 0xC2 0xD4 x
 
 -- n bytes on the labels compare as they do from i and j on
 pub record Passed (a b : List ℕ) (i j n : ℕ) : Type 0 where

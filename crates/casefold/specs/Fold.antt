@@ -15,12 +15,12 @@ c ⇒ l = record { from = c; to = l }
 -- "a short list for those that fold to several characters, such as ß to ss"
 unfoldable pub several : List Several
 several =
-    0x00_dF ⇒ (0x0073 ∷ 0x0073 ∷ [])
+    0x00DF ⇒ (0x0073 ∷ 0x0073 ∷ [])
     ∷ 0x0130 ⇒ (0x0069 ∷ 0x0307 ∷ [])
-    ∷ 0x0149 ⇒ (0x02_bC ∷ 0x006_e ∷ [])
-    ∷ 0x01_f0 ⇒ (0x006_a ∷ 0x030_c ∷ [])
-    ∷ 0x0390 ⇒ (0x03_b9 ∷ 0x0308 ∷ 0x0301 ∷ [])
-    ∷ 0x03_b0 ⇒ (0x03_c5 ∷ 0x0308 ∷ 0x0301 ∷ [])
+    ∷ 0x0149 ⇒ (0x02BC ∷ 0x006E ∷ [])
+    ∷ 0x01F0 ⇒ (0x006A ∷ 0x030C ∷ [])
+    ∷ 0x0390 ⇒ (0x03B9 ∷ 0x0308 ∷ 0x0301 ∷ [])
+    ∷ 0x03B0 ⇒ (0x03C5 ∷ 0x0308 ∷ 0x0301 ∷ [])
     ∷ []
 
 -- what the list's first entry about c says; where there is none, the table's entry, and past the table's end c itself
@@ -43,9 +43,9 @@ fold_all (c ∷ l) = fold c ++ fold_all l
 unfoldable pub utf8 : ℕ → List ℕ
 utf8 c =
     cond (ltb c 0x80) (c ∷ [])
-    (cond (ltb c 0x800) ((0x_c0 + c / 64) ∷ (0x80 + c % 64) ∷ [])
-    (cond (ltb c 0x10000) ((0x_e0 + c / 4096) ∷ (0x80 + c / 64 % 64) ∷ (0x80 + c % 64) ∷ [])
-    ((0x_f0 + c / 262144) ∷ (0x80 + c / 4096 % 64) ∷ (0x80 + c / 64 % 64) ∷ (0x80 + c % 64) ∷ [])))
+    (cond (ltb c 0x800) ((0xC0 + c / 64) ∷ (0x80 + c % 64) ∷ [])
+    (cond (ltb c 0x10000) ((0xE0 + c / 4096) ∷ (0x80 + c / 64 % 64) ∷ (0x80 + c % 64) ∷ [])
+    ((0xF0 + c / 262144) ∷ (0x80 + c / 4096 % 64) ∷ (0x80 + c / 64 % 64) ∷ (0x80 + c % 64) ∷ [])))
 
 unfoldable pub utf8s : List ℕ → List ℕ
 utf8s [] = []

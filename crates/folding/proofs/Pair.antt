@@ -12,9 +12,9 @@ use Rattle.folding.specs.Pair.{pair, code_of}
 pub pair_bounds : (b x : ℕ) → pair b x ≡ true → (194 ≤ b) × (128 ≤ x) × (b * 64 + x < 13744)
 unfolding pair
 pair_bounds b x e =
-    let l : within 0x_c2 0x_d4 b ≡ true = and_left _ (within 0x80 0x_bF x && ltb (b * 64 + x) 13744) e in
-    let r : (within 0x80 0x_bF x && ltb (b * 64 + x) 13744) ≡ true = and_right (within 0x_c2 0x_d4 b) _ e in
-    (leb-true _ _ (and_left _ (leb b 0x_d4) l), leb-true _ _ (and_left _ (leb x 0x_bF) (and_left _ (ltb (b * 64 + x) 13744) r)), ltb-true _ _ (and_right (within 0x80 0x_bF x) _ r))
+    let l : within 0xC2 0xD4 b ≡ true = and_left _ (within 0x80 0xBF x && ltb (b * 64 + x) 13744) e in
+    let r : (within 0x80 0xBF x && ltb (b * 64 + x) 13744) ≡ true = and_right (within 0xC2 0xD4 b) _ e in
+    (leb-true _ _ (and_left _ (leb b 0xD4) l), leb-true _ _ (and_left _ (leb x 0xBF) (and_left _ (ltb (b * 64 + x) 13744) r)), ltb-true _ _ (and_right (within 0x80 0xBF x) _ r))
 
 pub code_low : (b x : ℕ) → pair b x ≡ true → 128 ≤ code_of b x
 unfolding code_of

@@ -29,7 +29,7 @@ word_right c l h = equals_to _ _ (rw (le-ltb c 128 l) at (at words 1328 words_ho
 
 -- ---- they fold to themselves, none is blank, and the first continues nothing
 abbrev pub alone : ℕ → Bool
-alone x = not (within 0x_c2 0x_d4 x) && eqb (lower x) x
+alone x = not (within 0xC2 0xD4 x) && eqb (lower x) x
 
 abbrev pub stays : ℕ → ℕ → Bool
 stays x y = pair x y && equals (expand (code_of x y)) (x ∷ y ∷ [])

@@ -15,18 +15,18 @@ unpacked n = unpack 8 n
 unfoldable pub utf8_word : ℕ → ℕ
 utf8_word f =
     cond (ltb f 0x80) f
-    (cond (ltb f 0x800) (0x_c0 + f / 64 + 256 * (0x80 + f % 64))
-    (0x_e0 + f / 4096 + 256 * (0x80 + f / 64 % 64) + 65536 * (0x80 + f % 64)))
+    (cond (ltb f 0x800) (0xC0 + f / 64 + 256 * (0x80 + f % 64))
+    (0xE0 + f / 4096 + 256 * (0x80 + f / 64 % 64) + 65536 * (0x80 + f % 64)))
 
 -- the short list: UTF-8 of what each folds to, and 0 for any other
 unfoldable pub several_word : ℕ → ℕ
 several_word c =
-    cond (eqb c 0x00_dF) 0x7373
-    (cond (eqb c 0x0130) 0x87_cC69
-    (cond (eqb c 0x0149) 0x6_eBCCA
-    (cond (eqb c 0x01_f0) 0x8_cCC6_a
-    (cond (eqb c 0x0390) 0x81_cC88_cCB9_cE
-    (cond (eqb c 0x03_b0) 0x81_cC88_cC85_cF 0)))))
+    cond (eqb c 0x00DF) 0x7373
+    (cond (eqb c 0x0130) 0x87CC69
+    (cond (eqb c 0x0149) 0x6EBCCA
+    (cond (eqb c 0x01F0) 0x8CCC6A
+    (cond (eqb c 0x0390) 0x81CC88CCB9CE
+    (cond (eqb c 0x03B0) 0x81CC88CC85CF 0)))))
 
 -- of c, where f is its entry in the table
 unfoldable pub word_by : ℕ → ℕ → ℕ

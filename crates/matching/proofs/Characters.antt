@@ -15,12 +15,12 @@ use Rattle.matching.proofs.Spelled.{expand_later, passes, one, two, tail, over_l
 
 -- ---- characters of three and four bytes
 module _ (s : List ℕ) where
-  three : (a b c : ℕ) → 0x_e0 ≤ a → a ≤ 0x_eF → 0x80 ≤ b → b ≤ 0x_bF → 0x80 ≤ c → c ≤ 0x_bF → 0x800 ≤ ((a - 0x_e0) * 64 + (b - 0x80)) * 64 + (c - 0x80)
-      → folds (a ∷ b ∷ c ∷ s) ≡ expand (((a - 0x_e0) * 64 + (b - 0x80)) * 64 + (c - 0x80)) ++ folds s
+  three : (a b c : ℕ) → 0xE0 ≤ a → a ≤ 0xEF → 0x80 ≤ b → b ≤ 0xBF → 0x80 ≤ c → c ≤ 0xBF → 0x800 ≤ ((a - 0xE0) * 64 + (b - 0x80)) * 64 + (c - 0x80)
+      → folds (a ∷ b ∷ c ∷ s) ≡ expand (((a - 0xE0) * 64 + (b - 0x80)) * 64 + (c - 0x80)) ++ folds s
   unfolding utf8
   three a b c la ha lb hb lc hc k =
-      let n : ℕ = ((a - 0x_e0) * 64 + (b - 0x80)) * 64 + (c - 0x80) in
-      let d : 0x_e0 + n / 4096 ≡ a = omega arith in
+      let n : ℕ = ((a - 0xE0) * 64 + (b - 0x80)) * 64 + (c - 0x80) in
+      let d : 0xE0 + n / 4096 ≡ a = omega arith in
       let e : 0x80 + n / 64 % 64 ≡ b = omega arith in
       let f : 0x80 + n % 64 ≡ c = omega arith in
       let u : utf8 n ≡ a ∷ b ∷ c ∷ [] =
@@ -30,13 +30,13 @@ module _ (s : List ℕ) where
       ∙ ap (λ (r : List ℕ). a ∷ b ∷ r) (tail s c s lc hc)
       ∙ ap (λ (r : List ℕ). r ++ folds s) (sym (expand_later n (omega arith) ∙ u))
 
-  four : (a b c d : ℕ) → 0x_f0 ≤ a → a ≤ 0x_f4 → 0x80 ≤ b → b ≤ 0x_bF → 0x80 ≤ c → c ≤ 0x_bF → 0x80 ≤ d → d ≤ 0x_bF
-      → 0x10000 ≤ (((a - 0x_f0) * 64 + (b - 0x80)) * 64 + (c - 0x80)) * 64 + (d - 0x80)
-      → folds (a ∷ b ∷ c ∷ d ∷ s) ≡ expand ((((a - 0x_f0) * 64 + (b - 0x80)) * 64 + (c - 0x80)) * 64 + (d - 0x80)) ++ folds s
+  four : (a b c d : ℕ) → 0xF0 ≤ a → a ≤ 0xF4 → 0x80 ≤ b → b ≤ 0xBF → 0x80 ≤ c → c ≤ 0xBF → 0x80 ≤ d → d ≤ 0xBF
+      → 0x10000 ≤ (((a - 0xF0) * 64 + (b - 0x80)) * 64 + (c - 0x80)) * 64 + (d - 0x80)
+      → folds (a ∷ b ∷ c ∷ d ∷ s) ≡ expand ((((a - 0xF0) * 64 + (b - 0x80)) * 64 + (c - 0x80)) * 64 + (d - 0x80)) ++ folds s
   unfolding utf8
   four a b c d la ha lb hb lc hc ld hd k =
-      let n : ℕ = (((a - 0x_f0) * 64 + (b - 0x80)) * 64 + (c - 0x80)) * 64 + (d - 0x80) in
-      let e : 0x_f0 + n / 262144 ≡ a = omega arith in
+      let n : ℕ = (((a - 0xF0) * 64 + (b - 0x80)) * 64 + (c - 0x80)) * 64 + (d - 0x80) in
+      let e : 0xF0 + n / 262144 ≡ a = omega arith in
       let f : 0x80 + n / 4096 % 64 ≡ b = omega arith in
       let g : 0x80 + n / 64 % 64 ≡ c = omega arith in
       let h : 0x80 + n % 64 ≡ d = omega arith in
@@ -52,21 +52,21 @@ module _ (s : List ℕ) where
   abbrev Right : List ℕ → Type 0
   Right c = folds (c ++ s) ≡ expand (code_point c) ++ folds s
 
-  row_1 : (r : ByteRange) (c : List ℕ) → r.high ≤ 0x7_f → Fits (r ∷ []) c → Right c
+  row_1 : (r : ByteRange) (c : List ℕ) → r.high ≤ 0x7F → Fits (r ∷ []) c → Right c
   unfolding code_point
   row_1 r [] h f = absurd f
   row_1 r (a ∷ []) h f = let g = f.1 in one s a (omega arith)
   row_1 r (a ∷ b ∷ c) h f = absurd f.2
 
-  row_2 : (r q : ByteRange) (c : List ℕ) → 0x_c2 ≤ r.low → r.high ≤ 0x_dF → 0x80 ≤ q.low → q.high ≤ 0x_bF → Fits (r ∷ q ∷ []) c → Right c
+  row_2 : (r q : ByteRange) (c : List ℕ) → 0xC2 ≤ r.low → r.high ≤ 0xDF → 0x80 ≤ q.low → q.high ≤ 0xBF → Fits (r ∷ q ∷ []) c → Right c
   unfolding code_point
   row_2 r q [] lr hr lq hq f = absurd f
   row_2 r q (a ∷ []) lr hr lq hq f = absurd f.2
   row_2 r q (a ∷ b ∷ []) lr hr lq hq f = two s a b (omega arith) (omega arith) (omega arith) (omega arith)
   row_2 r q (a ∷ b ∷ c ∷ d) lr hr lq hq f = absurd f.2.2
 
-  row_3 : (r q p : ByteRange) (c : List ℕ) → 0x_e0 ≤ r.low → r.high ≤ 0x_eF → 0x80 ≤ q.low → q.high ≤ 0x_bF → 0x80 ≤ p.low → p.high ≤ 0x_bF
-      → 0x20 ≤ (r.low - 0x_e0) * 64 + (q.low - 0x80) → Fits (r ∷ q ∷ p ∷ []) c → Right c
+  row_3 : (r q p : ByteRange) (c : List ℕ) → 0xE0 ≤ r.low → r.high ≤ 0xEF → 0x80 ≤ q.low → q.high ≤ 0xBF → 0x80 ≤ p.low → p.high ≤ 0xBF
+      → 0x20 ≤ (r.low - 0xE0) * 64 + (q.low - 0x80) → Fits (r ∷ q ∷ p ∷ []) c → Right c
   unfolding code_point
   row_3 r q p [] lr hr lq hq lp hp k f = absurd f
   row_3 r q p (a ∷ []) lr hr lq hq lp hp k f = absurd f.2
@@ -75,8 +75,8 @@ module _ (s : List ℕ) where
       three a b c (omega arith) (omega arith) (omega arith) (omega arith) (omega arith) (omega arith) (omega arith)
   row_3 r q p (a ∷ b ∷ c ∷ d ∷ l) lr hr lq hq lp hp k f = absurd f.2.2.2
 
-  row_4 : (r q p o : ByteRange) (c : List ℕ) → 0x_f0 ≤ r.low → r.high ≤ 0x_f4 → 0x80 ≤ q.low → q.high ≤ 0x_bF → 0x80 ≤ p.low → p.high ≤ 0x_bF → 0x80 ≤ o.low → o.high ≤ 0x_bF
-      → 0x10 ≤ (r.low - 0x_f0) * 64 + (q.low - 0x80) → Fits (r ∷ q ∷ p ∷ o ∷ []) c → Right c
+  row_4 : (r q p o : ByteRange) (c : List ℕ) → 0xF0 ≤ r.low → r.high ≤ 0xF4 → 0x80 ≤ q.low → q.high ≤ 0xBF → 0x80 ≤ p.low → p.high ≤ 0xBF → 0x80 ≤ o.low → o.high ≤ 0xBF
+      → 0x10 ≤ (r.low - 0xF0) * 64 + (q.low - 0x80) → Fits (r ∷ q ∷ p ∷ o ∷ []) c → Right c
   unfolding code_point
   row_4 r q p o [] lr hr lq hq lp hp lo ho k f = absurd f
   row_4 r q p o (a ∷ []) lr hr lq hq lp hp lo ho k f = absurd f.2
@@ -87,7 +87,7 @@ module _ (s : List ℕ) where
   row_4 r q p o (a ∷ b ∷ c ∷ d ∷ e ∷ l) lr hr lq hq lp hp lo ho k f = absurd f.2.2.2.2
 
   abbrev cont : ByteRange
-  cont = 0x80 ‥ 0x_bF
+  cont = 0x80 ‥ 0xBF
 
   -- what fits one of the rows is read right
   abbrev Serves : List (List ByteRange) → Type 0
@@ -101,23 +101,23 @@ module _ (s : List ℕ) where
   table_serves : Serves table
   unfolding table
   table_serves = (
-    λ c f. row_1 (0x00 ‥ 0x7_f) c (omega arith) f,
+    λ c f. row_1 (0x00 ‥ 0x7F) c (omega arith) f,
     (
-      λ c f. row_2 (0x_c2 ‥ 0x_dF) cont c (omega arith) (omega arith) (omega arith) (omega arith) f,
+      λ c f. row_2 (0xC2 ‥ 0xDF) cont c (omega arith) (omega arith) (omega arith) (omega arith) f,
       (
-        λ c f. row_3 (0x_e0 ‥ 0x_e0) (0x_a0 ‥ 0x_bF) cont c (omega arith) (omega arith) (omega arith) (omega arith) (omega arith) (omega arith) (omega arith) f,
+        λ c f. row_3 (0xE0 ‥ 0xE0) (0xA0 ‥ 0xBF) cont c (omega arith) (omega arith) (omega arith) (omega arith) (omega arith) (omega arith) (omega arith) f,
         (
-          λ c f. row_3 (0x_e1 ‥ 0x_eC) cont cont c (omega arith) (omega arith) (omega arith) (omega arith) (omega arith) (omega arith) (omega arith) f,
+          λ c f. row_3 (0xE1 ‥ 0xEC) cont cont c (omega arith) (omega arith) (omega arith) (omega arith) (omega arith) (omega arith) (omega arith) f,
           (
-            λ c f. row_3 (0x_eD ‥ 0x_eD) (0x80 ‥ 0x9_f) cont c (omega arith) (omega arith) (omega arith) (omega arith) (omega arith) (omega arith) (omega arith) f,
+            λ c f. row_3 (0xED ‥ 0xED) (0x80 ‥ 0x9F) cont c (omega arith) (omega arith) (omega arith) (omega arith) (omega arith) (omega arith) (omega arith) f,
             (
-              λ c f. row_3 (0x_eE ‥ 0x_eF) cont cont c (omega arith) (omega arith) (omega arith) (omega arith) (omega arith) (omega arith) (omega arith) f,
+              λ c f. row_3 (0xEE ‥ 0xEF) cont cont c (omega arith) (omega arith) (omega arith) (omega arith) (omega arith) (omega arith) (omega arith) f,
               (
-                λ c f. row_4 (0x_f0 ‥ 0x_f0) (0x90 ‥ 0x_bF) cont cont c (omega arith) (omega arith) (omega arith) (omega arith) (omega arith) (omega arith) (omega arith) (omega arith) (omega arith) f,
+                λ c f. row_4 (0xF0 ‥ 0xF0) (0x90 ‥ 0xBF) cont cont c (omega arith) (omega arith) (omega arith) (omega arith) (omega arith) (omega arith) (omega arith) (omega arith) (omega arith) f,
                 (
-                  λ c f. row_4 (0x_f1 ‥ 0x_f3) cont cont cont c (omega arith) (omega arith) (omega arith) (omega arith) (omega arith) (omega arith) (omega arith) (omega arith) (omega arith) f,
+                  λ c f. row_4 (0xF1 ‥ 0xF3) cont cont cont c (omega arith) (omega arith) (omega arith) (omega arith) (omega arith) (omega arith) (omega arith) (omega arith) (omega arith) f,
                   (
-                    λ c f. row_4 (0x_f4 ‥ 0x_f4) (0x80 ‥ 0x8_f) cont cont c (omega arith) (omega arith) (omega arith) (omega arith) (omega arith) (omega arith) (omega arith) (omega arith) (omega arith) f,
+                    λ c f. row_4 (0xF4 ‥ 0xF4) (0x80 ‥ 0x8F) cont cont c (omega arith) (omega arith) (omega arith) (omega arith) (omega arith) (omega arith) (omega arith) (omega arith) (omega arith) f,
                     tt,
                   ),
                 ),

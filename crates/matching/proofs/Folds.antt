@@ -32,7 +32,7 @@ one_begins b l h =
       rest = l;
       whole = refl;
       size = refl;
-      class = record { row = 0x00 ‥ 0x7_f ∷ []; listed = (0, refl); fits = (omega arith, omega arith, tt) };
+      class = record { row = 0x00 ‥ 0x7F ∷ []; listed = (0, refl); fits = (omega arith, omega arith, tt) };
     }
 
 two_begins : (b x : ℕ) (l : List ℕ) → pair b x ≡ true → Begins Character (b ∷ x ∷ l) 2
@@ -46,7 +46,7 @@ two_begins b x l p =
       whole = refl;
       size = refl;
       class = record {
-        row = 0x_c2 ‥ 0x_dF ∷ 0x80 ‥ 0x_bF ∷ [];
+        row = 0xC2 ‥ 0xDF ∷ 0x80 ‥ 0xBF ∷ [];
         listed = (1, refl);
         fits = (omega arith, omega arith, (omega arith, omega arith, tt));
       };

@@ -21,14 +21,14 @@ use Rattle.matching.proofs.Spelled.{lower_high, low_second, no_pair_0}
 use Rattle.matching.proofs.Starts.{blank_low, folds_blank, start_one, start_pair, spaced_headed}
 
 -- ---- bytes that stay
-not_lead : (x y : ℕ) → not (within 0x_c2 0x_d4 x) ≡ true → pair x y ≡ false
+not_lead : (x y : ℕ) → not (within 0xC2 0xD4 x) ≡ true → pair x y ≡ false
 unfolding pair
-not_lead x y e = let f : within 0x_c2 0x_d4 x ≡ false = not-true _ e in rw f
+not_lead x y e = let f : within 0xC2 0xD4 x ≡ false = not-true _ e in rw f
 
 alone_one : (x : ℕ) (s : List ℕ) → alone x ≡ true → folds (x ∷ s) ≡ x ∷ folds s
 alone_one x s e =
     folds_one x s (not_lead x (get_or s 0 0) (and_left _ (eqb (lower x) x) e))
-    ∙ ap (λ (y : ℕ). y ∷ folds s) (eqb-true (lower x) x (and_right (not (within 0x_c2 0x_d4 x)) _ e))
+    ∙ ap (λ (y : ℕ). y ∷ folds s) (eqb-true (lower x) x (and_right (not (within 0xC2 0xD4 x)) _ e))
 
 either : (s t : Bool) → (s || t) ≡ true → s ≡ false → t ≡ true
 either true t e f = absurd (true≢false f)
@@ -74,7 +74,7 @@ lower_back b h =
 
 -- ---- a byte 0x80 to 0xBF at the front was there before
 middle : ℕ → Bool
-middle y = within 0x80 0x_bF y
+middle y = within 0x80 0xBF y
 
 headed_front : (l m : List ℕ) → headed l ≡ true → middle (get_or (l ++ m) 0 0) ≡ false
 unfolding middle
@@ -85,8 +85,8 @@ front_one : (b : ℕ) (t : List ℕ) → pair b (get_or t 0 0) ≡ false → mid
 unfolding middle
 front_one b t n m =
     let q : folds (b ∷ t) ≡ lower b ∷ folds t = folds_one b t n in
-    let o : within 0x80 0x_bF (lower b) ≡ true = rw q at m in
-    rw q (lower_back b (leb-true 0x80 (lower b) (and_left _ (leb (lower b) 0x_bF) o)))
+    let o : within 0x80 0xBF (lower b) ≡ true = rw q at m in
+    rw q (lower_back b (leb-true 0x80 (lower b) (and_left _ (leb (lower b) 0xBF) o)))
 
 front : (t : List ℕ) → middle (get_or (folds t) 0 0) ≡ true → get_or (folds t) 0 0 ≡ get_or t 0 0
 unfolding folds_from
@@ -101,7 +101,7 @@ front (b ∷ x ∷ t) m =
 
 pair_middle : (b y : ℕ) → pair b y ≡ true → middle y ≡ true
 unfolding pair middle
-pair_middle b y e = and_left _ (ltb (b * 64 + y) 13744) (and_right (within 0x_c2 0x_d4 b) _ e)
+pair_middle b y e = and_left _ (ltb (b * 64 + y) 13744) (and_right (within 0xC2 0xD4 b) _ e)
 
 still : (b : ℕ) (t : List ℕ) → pair b (get_or t 0 0) ≡ false → pair (lower b) (get_or (folds t) 0 0) ≡ false
 still b t n =

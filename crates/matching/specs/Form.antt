@@ -9,9 +9,9 @@ use Rattle.casefold.specs.Fold.{expand}
 unfoldable pub code_point : List ℕ → ℕ
 code_point [] = 0
 code_point (a ∷ []) = a
-code_point (a ∷ b ∷ []) = (a - 0x_c0) * 64 + (b - 0x80)
-code_point (a ∷ b ∷ c ∷ []) = ((a - 0x_e0) * 64 + (b - 0x80)) * 64 + (c - 0x80)
-code_point (a ∷ b ∷ c ∷ d ∷ l) = (((a - 0x_f0) * 64 + (b - 0x80)) * 64 + (c - 0x80)) * 64 + (d - 0x80)
+code_point (a ∷ b ∷ []) = (a - 0xC0) * 64 + (b - 0x80)
+code_point (a ∷ b ∷ c ∷ []) = ((a - 0xE0) * 64 + (b - 0x80)) * 64 + (c - 0x80)
+code_point (a ∷ b ∷ c ∷ d ∷ l) = (((a - 0xF0) * 64 + (b - 0x80)) * 64 + (c - 0x80)) * 64 + (d - 0x80)
 
 -- f is l with each character folded: UTF-8 of what its code point folds to. A byte at which no character of the table of UTF-8 starts
 -- stands for itself.

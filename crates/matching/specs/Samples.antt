@@ -69,36 +69,36 @@ samples =
     ∷ spelt (0x0130 ∷ []) (0x0069 ∷ 0x0307 ∷ []) true
     ∷ spelt (0x0130 ∷ []) (0x0049 ∷ 0x0307 ∷ []) true
     ∷ spelt (0x0130 ∷ []) (0x0069 ∷ []) false
-    ∷ spelt (0x0149 ∷ []) (0x02_bC ∷ 0x004_e ∷ []) true
-    ∷ spelt (0x01_f0 ∷ []) (0x004_a ∷ 0x030_c ∷ []) true
+    ∷ spelt (0x0149 ∷ []) (0x02BC ∷ 0x004E ∷ []) true
+    ∷ spelt (0x01F0 ∷ []) (0x004A ∷ 0x030C ∷ []) true
     ∷ spelt (0x0390 ∷ []) (0x0399 ∷ 0x0308 ∷ 0x0301 ∷ []) true
     ∷ spelt (0x0390 ∷ []) (0x0399 ∷ 0x0308 ∷ []) false
-    ∷ spelt (0x03_b0 ∷ []) (0x03_a5 ∷ 0x0308 ∷ 0x0301 ∷ []) true
+    ∷ spelt (0x03B0 ∷ []) (0x03A5 ∷ 0x0308 ∷ 0x0301 ∷ []) true
     -- final sigma, micro sign, long s
     ∷ sample "ΟΔΟΣ" "οδος" true
     ∷ sample "ς" "σ" true
-    ∷ spelt (0x00_b5 ∷ []) (0x03_bC ∷ []) true
+    ∷ spelt (0x00B5 ∷ []) (0x03BC ∷ []) true
     ∷ sample "ſ" "S" true
     ∷ sample "ſſ" "ß" true
     -- two bytes to three
-    ∷ spelt (0x023_a ∷ []) (0x2_c65 ∷ []) true
+    ∷ spelt (0x023A ∷ []) (0x2C65 ∷ []) true
     -- the last characters of the table, and later ones
-    ∷ spelt (0x052_e ∷ []) (0x052_f ∷ []) true
+    ∷ spelt (0x052E ∷ []) (0x052F ∷ []) true
     ∷ spelt (0x0531 ∷ []) (0x0561 ∷ []) false
-    ∷ spelt (0x2126 ∷ []) (0x03_c9 ∷ []) false
+    ∷ spelt (0x2126 ∷ []) (0x03C9 ∷ []) false
     ∷ spelt (0x2126 ∷ []) (0x2126 ∷ []) true
-    ∷ spelt (0x212_a ∷ []) (0x006_b ∷ []) false
-    ∷ spelt (0x212_a ∷ []) (0x212_a ∷ []) true
-    ∷ spelt (0x1_e9_e ∷ []) (0x00_dF ∷ []) false
+    ∷ spelt (0x212A ∷ []) (0x006B ∷ []) false
+    ∷ spelt (0x212A ∷ []) (0x212A ∷ []) true
+    ∷ spelt (0x1E9E ∷ []) (0x00DF ∷ []) false
     ∷ sample "漢字 😀" "漢字  😀" true
     ∷ sample "×" "÷" false
     -- no blanks but space, tab and LF
-    ∷ spelt (0x00_a0 ∷ 0x0061 ∷ []) (0x0061 ∷ []) false
+    ∷ spelt (0x00A0 ∷ 0x0061 ∷ []) (0x0061 ∷ []) false
     -- bytes that stand in no character
-    ∷ raw (0x_c3 ∷ 0x41 ∷ []) (0x_c3 ∷ 0x61 ∷ []) true
-    ∷ raw (0x_c3 ∷ []) (0x_e3 ∷ []) false
-    ∷ raw (0x_cE ∷ 0x_cE ∷ 0x91 ∷ []) (0x_cE ∷ 0x_cE ∷ 0x_b1 ∷ []) true
-    ∷ raw (0x91 ∷ []) (0x_b1 ∷ []) false
+    ∷ raw (0xC3 ∷ 0x41 ∷ []) (0xC3 ∷ 0x61 ∷ []) true
+    ∷ raw (0xC3 ∷ []) (0xE3 ∷ []) false
+    ∷ raw (0xCE ∷ 0xCE ∷ 0x91 ∷ []) (0xCE ∷ 0xCE ∷ 0xB1 ∷ []) true
+    ∷ raw (0x91 ∷ []) (0xB1 ∷ []) false
     ∷ []
 
 abbrev hold : List Sample → Bool

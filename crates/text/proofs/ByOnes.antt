@@ -40,7 +40,7 @@ same_eq (r ∷ k) (q ∷ l) e =
 
 -- ---- the bytes after a first byte of a longer character, by leading ones
 abbrev continuations : List ByteRange
-continuations = 0x80 ‥ 0x_bF ∷ 0x80 ‥ 0x_bF ∷ []
+continuations = 0x80 ‥ 0xBF ∷ 0x80 ‥ 0xBF ∷ []
 
 abbrev following : ℕ → List ByteRange
 following b = cond (lead b) (least b ‥ most b ∷ take (sequence_length b - 2) continuations) []
@@ -78,7 +78,7 @@ starts_take n j r row s z =
     rw (e, p) (starts_cons r (take (n - suc j) row) s z))
 
 least_low : (b : ℕ) → leb (least b) 0 ≡ false
-least_low b = by (eqb b 0x_e0) (λ e. simp e) (λ e. by (eqb b 0x_f0) (λ f. simp (e, f)) (λ f. simp (e, f)))
+least_low b = by (eqb b 0xE0) (λ e. simp e) (λ e. by (eqb b 0xF0) (λ f. simp (e, f)) (λ f. simp (e, f)))
 
 and_true : (p : Bool) → (p && true) ≡ p
 and_true true = refl
@@ -89,7 +89,7 @@ starts_following : (b : ℕ) (s : List ℕ) → let n = sequence_length b in
     ≡ (second b (get_or s 0 0) && ((ltb n 3 || continuation (get_or (drop 1 s) 0 0)) && (ltb n 4 || continuation (get_or (drop 1 (drop 1 s)) 0 0))))
 unfolding starts
 starts_following b s =
-    rw (starts_cons (least b ‥ most b) (take (sequence_length b - 2) continuations) s (least_low b), starts_take (sequence_length b) 2 (0x80 ‥ 0x_bF) (0x80 ‥ 0x_bF ∷ []) (drop 1 s) refl, starts_take (sequence_length b) 3 (0x80 ‥ 0x_bF) [] (drop 1 (drop 1 s)) refl, take-nil {A = ByteRange} (sequence_length b - 4), and_true)
+    rw (starts_cons (least b ‥ most b) (take (sequence_length b - 2) continuations) s (least_low b), starts_take (sequence_length b) 2 (0x80 ‥ 0xBF) (0x80 ‥ 0xBF ∷ []) (drop 1 s) refl, starts_take (sequence_length b) 3 (0x80 ‥ 0xBF) [] (drop 1 (drop 1 s)) refl, take-nil {A = ByteRange} (sequence_length b - 4), and_true)
 
 -- the table's answer by leading ones
 pub by_ones : (b : ℕ) (s : List ℕ) → 128 ≤ b → b < 256 → let n = sequence_length b in
@@ -104,8 +104,8 @@ pub ascii_length : (b : ℕ) (s : List ℕ) → b < 128 → character_length (b 
 unfolding character_length row_for table starts
 ascii_length b s h =
     let k : b ≤ 127 = omega arith in
-    let o : leads (0x00 ‥ 0x7_f ∷ []) b ≡ true = simp (le-leb 0 b zero-le, le-leb b 127 k) in
-    rw (row_here (0x00 ‥ 0x7_f ∷ []) _ b o, o)
+    let o : leads (0x00 ‥ 0x7F ∷ []) b ≡ true = simp (le-leb 0 b zero-le, le-leb b 127 k) in
+    rw (row_here (0x00 ‥ 0x7F ∷ []) _ b o, o)
 
 module _ (s : List ℕ) (i : ℕ) where
   pub nothing_left : length s ≤ i → 0 ≡ character_length (drop i s)

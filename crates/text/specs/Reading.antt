@@ -41,14 +41,14 @@ character_length s = length_by (row_for table (get_or s 0 0)) s
 
 -- b starts a character of two to four bytes
 abbrev pub lead : ℕ → Bool
-lead b = within 0x_c2 0x_f4 b
+lead b = within 0xC2 0xF4 b
 
 -- the least and the largest second byte after b
 abbrev pub least : ℕ → ℕ
-least b = cond (eqb b 0x_e0) 0x_a0 (cond (eqb b 0x_f0) 0x90 0x80)
+least b = cond (eqb b 0xE0) 0xA0 (cond (eqb b 0xF0) 0x90 0x80)
 
 abbrev pub most : ℕ → ℕ
-most b = cond (eqb b 0x_eD) 0x9_f (cond (eqb b 0x_f4) 0x8_f 0x_bF)
+most b = cond (eqb b 0xED) 0x9F (cond (eqb b 0xF4) 0x8F 0xBF)
 
 -- x may be the second byte after b
 abbrev pub second : ℕ → ℕ → Bool
@@ -56,7 +56,7 @@ second b x = within (least b) (most b) x
 
 -- x may be a third or fourth byte
 abbrev pub continuation : ℕ → Bool
-continuation x = within 0x80 0x_bF x
+continuation x = within 0x80 0xBF x
 
 -- ---- the good character at the front
 

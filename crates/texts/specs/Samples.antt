@@ -17,7 +17,7 @@ checked note sheet = check_of (texts note sheet)
 pub record Samples : Type 0 where
   pub both_good : checked (97 ∷ []) [] ≡ Good
   pub note_first : checked (97 ∷ 0 ∷ []) (13 ∷ []) ≡ Bad 0 1
-  pub sheet_bad : checked (97 ∷ []) (97 ∷ 97 ∷ 0x_c3 ∷ []) ≡ Bad 1 2
+  pub sheet_bad : checked (97 ∷ []) (97 ∷ 97 ∷ 0xC3 ∷ []) ≡ Bad 1 2
   -- both are checked on the note, then both on the sheet
   pub note_bad_sheet_long : checked (13 ∷ []) long ≡ Bad 0 0
   pub note_long_sheet_bad : checked long (13 ∷ []) ≡ Long 0 32769
