@@ -23,9 +23,9 @@ pub record Run (s : List ℕ) (run rest : List (List ℕ)) : Type 0 where
 
 pub run_of : {s : List ℕ} (run rest : List (List ℕ)) → Lines s (run ++ rest) → Run s run rest
 run_of {s} [] rest p = record { after = s; whole = refl; others = p }
-run_of (l ∷ run) rest p =
+run_of {s = s} (l ∷ run) rest p =
     let f = starts p in
-    let r = run_of run rest f.others in
+    let r = run_of {s = f.rest} run rest f.others in
     record { after = r.after; whole = f.whole ∙ ap (λ (x : List ℕ). l ++ x) r.whole ∙ sym (append_assoc l (bytes_of_lines run) r.after); others = r.others }
 
 starts_blank : {s l : List ℕ} {ls : List (List ℕ)} → Starts s l ls → Blank l → blank_line s ≡ true
@@ -44,7 +44,7 @@ run_length : {s : List ℕ} {run rest : List (List ℕ)} → AllOther run → Bl
 run_length none over p = over_zero over p
 run_length {s} (more {l} {ls} n others) over p =
     let f = starts p in
-    let h = run_length others over f.others in
+    let h = run_length {s = f.rest} others over f.others in
     fresh_on s (starts_other f n) ∙ rw f.whole (block_first f.is_line ∙ rw h (sym (length-append l (bytes_of_lines ls))))
 
 block_length_lem : {s l : List ℕ} {run rest : List (List ℕ)} → AllOther (l ∷ run) → BlankOrEnd rest → Lines s ((l ∷ run) ++ rest) → block_length s ≡ length (bytes_of_lines (l ∷ run))

@@ -80,12 +80,12 @@ module _ {tail rest : List ℕ} (ends : EndOfLine tail rest) where
   -- ---- how long a line is, and how a block goes on after it
   line_length_lem : {body : List ℕ} → Every in_line body → line_length (body ++ tail) + length rest ≡ length (body ++ tail)
   unfolding line_length
-  line_length_lem none = elim ends [ feed ↦ omega arith | end ↦ refl ]
+  line_length_lem none = elim ends as (λ (tail rest : List ℕ) _. line_length tail + length rest ≡ length tail) [ feed ↦ omega arith | end ↦ refl ]
   line_length_lem (more {b} {l} e p) = let h = line_length_lem p in rw (not-true (eqb b 10) e, line_length) (omega arith)
 
   block_line : {body : List ℕ} → Every in_line body → block_rest false (body ++ tail) + length rest ≡ length (body ++ tail) + block_rest true rest
   unfolding block_rest
-  block_line none = elim ends [ feed ↦ omega arith | end ↦ refl ]
+  block_line none = elim ends as (λ (tail rest : List ℕ) _. block_rest false tail + length rest ≡ length tail + block_rest true rest) [ feed ↦ omega arith | end ↦ refl ]
   block_line (more {b} {l} e p) = let h = block_line p in rw (not-true (eqb b 10) e) (omega arith)
 
 -- ---- the same of a line in its text
@@ -156,9 +156,9 @@ pub lines_one : {s : List ℕ} (ls ms : List (List ℕ)) → Lines s ls → Line
 lines_one [] [] p q = refl
 lines_one [] (m ∷ ms) p q = absurd (never (rw (no_lines p) at q))
 lines_one (l ∷ ls) [] p q = absurd (never (rw (no_lines q) at p))
-lines_one (l ∷ ls) (m ∷ ms) p q =
+lines_one {s = s} (l ∷ ls) (m ∷ ms) p q =
     let f = starts p in
     let g = starts q in
     let e = front f ∙ sym (front g) in
-    let t = lines_one ls ms (rw (back f) at f.others) (rw (back g) at g.others) in
+    let t = lines_one {s = drop {A = ℕ} (line_length s) s} ls ms (rw (back f) at f.others) (rw (back g) at g.others) in
     cc

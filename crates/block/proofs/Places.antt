@@ -59,6 +59,7 @@ module _ (s : List ℕ) where
   blocks_in_order = let m = (blocks_iff s (blocks s)).0 refl in in_order m.are_blocks m.are_lines
 
   each_within : {from : ℕ} {b : Placed} {bs : List Placed} → InOrder s from bs → Memᴰ b bs → Within s b
+  each_within {b = b} (done {from = from}) m = elim m [ ]
   each_within (next h w o) (Memᴰ.head e) = rw e w
   each_within (next h w o) (Memᴰ.tail m) = each_within o m
 
@@ -68,7 +69,7 @@ module _ (s : List ℕ) where
 
   next_after : {from : ℕ} (bs : List Placed) (b c : Placed) (cs : List Placed) → InOrder s from (bs ++ b ∷ c ∷ cs) → b.at + length b.bytes ≤ c.at
   next_after [] b c cs (next h w (next k v o)) = k
-  next_after (x ∷ bs) b c cs (next h w o) = next_after bs b c cs o
+  next_after {from = from} (x ∷ bs) b c cs (next h w o) = next_after {from = x.at + length x.bytes} bs b c cs o
 
   -- of two blocks side by side the second starts where the first ends, or later
   pub blocks_apart : (bs : List Placed) (b c : Placed) (cs : List Placed) → blocks s ≡ bs ++ b ∷ c ∷ cs → b.at + length b.bytes ≤ c.at

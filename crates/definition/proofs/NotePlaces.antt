@@ -41,10 +41,10 @@ all_cons c ds p f d (Memᴰ.tail m) = f d m
 module _ (s : List ℕ) where
   from_numbers : (k at : ℕ) → All (Numbers s) (taking_from k s at).definitions
   unfolding taking_from
-  from_numbers zero at = λ d m. absurd (Memᴰ.not_nil m)
+  from_numbers zero at = λ d m. absurd (Memᴰ.not-nil m)
   from_numbers (suc k) at =
       by_entry (definition_at s at)
-      (λ e. rw (from_none s (suc k) at e) (λ d m. absurd (Memᴰ.not_nil m)))
+      (λ e. rw (from_none s (suc k) at e) (λ d m. absurd (Memᴰ.not-nil m)))
       (λ c n e. rw (from_one s k at c n e) (all_cons c (taking_from k s n).definitions (definition_numbers s at c n e) (from_numbers k n)))
 
   pub taken_numbers : (at : ℕ) → All (Numbers s) (definitions_from s at).definitions
@@ -54,10 +54,10 @@ module _ (s : List ℕ) where
 module _ (s : List ℕ) where
   in_numbers : {from : ℕ} {bs : List Placed} → block.InOrder s from bs → All (Numbers s) (definitions_in s bs)
   unfolding definitions_in definitions_of
-  in_numbers block.done d m = absurd (Memᴰ.not_nil m)
+  in_numbers block.done d m = absurd (Memᴰ.not-nil m)
   in_numbers (block.next {b = b} h w o) d m =
       ⊎_elim (λ x. longer (omega (arith, end_length s b w, w.inside)) (taken_numbers (up_to_end s b) b.at d x)) (λ y. in_numbers o d y)
-      (Memᴰ.append_cases (definitions_from (up_to_end s b) b.at).definitions m)
+      (Memᴰ.append-cases (definitions_from (up_to_end s b) b.at).definitions m)
 
   -- every number of a definition of the note s is at most its length
   pub definitions_inside : All (Numbers s) (definitions s)

@@ -55,10 +55,10 @@ title_ordered (inr (x, y, z)) = y
 
 taken_in_order : (s : List ℕ) (k at : ℕ) → Each (taking_from k s at).definitions
 unfolding taking_from
-taken_in_order s zero at = λ d m. absurd (Memᴰ.not_nil m)
+taken_in_order s zero at = λ d m. absurd (Memᴰ.not-nil m)
 taken_in_order s (suc k) at =
     by_entry (definition_at s at)
-    (λ e. rw (from_none s (suc k) at e) (λ d m. absurd (Memᴰ.not_nil m)))
+    (λ e. rw (from_none s (suc k) at e) (λ d m. absurd (Memᴰ.not-nil m)))
     (λ c n e.
     let p = definition_places s at c n e in
     rw (from_one s k at c n e)
@@ -66,10 +66,10 @@ taken_in_order s (suc k) at =
 
 read_in_order : (s : List ℕ) (bs : List Placed) → Each (definitions_in s bs)
 unfolding definitions_in reading.definitions_of definitions_from
-read_in_order s [] d m = absurd (Memᴰ.not_nil m)
+read_in_order s [] d m = absurd (Memᴰ.not-nil m)
 read_in_order s (b ∷ bs) d m =
     ⊎_elim (λ x. taken_in_order (up_to_end s b) (length (up_to_end s b)) b.at d x) (λ y. read_in_order s bs d y)
-    (Memᴰ.append_cases (definitions_from (up_to_end s b) b.at).definitions m)
+    (Memᴰ.append-cases (definitions_from (up_to_end s b) b.at).definitions m)
 
 definitions_in_order : (s : List ℕ) → Each (definitions s)
 unfolding definitions

@@ -3,7 +3,7 @@ use Rattle.std.specs.Prelude.{ℕ, ◌≡◌, refl, List, [], ◌∷◌, map, Bo
 use Prim.Native.String.{String}
 use Rattle.scan.specs.Byte.{punctuation}
 use Rattle.scan.specs.Ascii.{ascii}
-use Rattle.scan.specs.Reading.{scan, run, clear, past_strides, closing_step, closing}
+use Rattle.scan.specs.Reading.{scan, run, clear, like, past_strides, closing_step, closing}
 use Rattle.scan.specs.declared.Found.{Found}
 use Rattle.scan.specs.declared.Found.TheVariants.{At, Nothing}
 

@@ -44,21 +44,21 @@ module _ (s : List ℕ) where
 
   block_lies : (e : ℕ) → e ≤ length s → (k at : ℕ) (d : Definition) → Memᴰ d (taking_from k (take e s) at).definitions → Lies s d
   unfolding taking_from
-  block_lies e h zero at d m = absurd (Memᴰ.not_nil m)
+  block_lies e h zero at d m = absurd (Memᴰ.not-nil m)
   block_lies e h (suc k) at d m =
       by_entry (definition_at (take e s) at)
-      (λ q. absurd (Memᴰ.not_nil (rw (from_none (take e s) (suc k) at q) at m)))
+      (λ q. absurd (Memᴰ.not-nil (rw (from_none (take e s) (suc k) at q) at m)))
       (λ c n q.
       ⊎_elim (λ i. subst (Lies s) (sym i) (lies e at c n h q)) (λ j. block_lies e h k n d j)
-      (Memᴰ.cases_cons (rw (from_one (take e s) k at c n q) at m)))
+      (Memᴰ.cases-cons (rw (from_one (take e s) k at c n q) at m)))
 
   all_lie : {from : ℕ} {bs : List Placed} → block.InOrder s from bs → (d : Definition) → Memᴰ d (definitions_in s bs) → Lies s d
   unfolding definitions_in definitions_of definitions_from
-  all_lie block.done d m = absurd (Memᴰ.not_nil m)
+  all_lie block.done d m = absurd (Memᴰ.not-nil m)
   all_lie (block.next {b = b} h w o) d m =
       let e = b.at + length b.bytes in
       ⊎_elim (λ x. block_lies e w.inside (length (take e s)) b.at d x) (λ y. all_lie o d y)
-      (Memᴰ.append_cases (taking_from (length (take e s)) (take e s) b.at).definitions m)
+      (Memᴰ.append-cases (taking_from (length (take e s)) (take e s) b.at).definitions m)
 
   pub definitions_lie : (d : Definition) → Memᴰ d (definitions s) → Lies s d
   unfolding definitions
