@@ -13,7 +13,7 @@ PORT = "/opt/rattle/port/port.py"
 STRING = r'"(?:[^"\\]|\\.)*"'
 WORD = r"[A-Za-zμκ«][A-Za-z0-9_\-·'′?₀-₉»]*"
 # A string, a comment, an operator with holes, a numeral in hexadecimals or a name of the library, or a word.
-TOKEN = re.compile(rf"({STRING})|((?:^|(?<=\s))--(?:\s.*)?$|//.*$)|(\S*◌\S*|0x[0-9A-Fa-f]+|Memᴰ\.[a-z-]+)|({WORD})", re.M)
+TOKEN = re.compile(rf"({STRING})|((?:^|(?<=\s))--(?:\s.*)?$|//.*$)|(\S*◌\S*|0x[0-9A-Fa-f]+|Memᴰ\.not-nil)|({WORD})", re.M)
 # Where a lemma, a field or a parameter would come to the name of a function: lemmas take _lem, the others these.
 OTHERWISE = {
     "code-close": "closing_code", "code-open": "opening_code", "link-close": "closing_link", "link-open": "opening_link",

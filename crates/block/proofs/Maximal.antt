@@ -53,7 +53,7 @@ is_run s (block {at} {l} {run} {rest} others over on) before e p o m =
       whole = h ∙ ap (λ (x : ℕ). record { at = x; bytes = bytes_of_lines (l ∷ run) }) e;
     })
     (λ h. is_run s on (before ++ (l ∷ run)) (omega (arith, joined_length before (l ∷ run))) (rw append_assoc p) (inr over) h)
-    (Memᴰ.cases-cons m)
+    (Memᴰ.cases_cons m)
 
 -- ---- a maximal run is a block: the blocks before it and those from it on are the blocks of all
 last_other : {l : List ℕ} (run : List (List ℕ)) → AllOther (l ∷ run) → Fresh (l ∷ run) → ⊥
@@ -79,7 +79,7 @@ run_is s b r =
     let (bs, front) = blocks_among r.before ((r.first ∷ r.run) ++ r.after) r.are_lines 0 in
     let (cs, back) = blocks_among r.after [] {s = u.after} (rw append-nil u.others) (0 + n + length (bytes_of_lines (r.first ∷ r.run))) in
     let e = (blocks_iff s _).1 (record { lines = _; are_lines = r.are_lines; are_blocks = append front r.fresh (block r.others r.over back) }) in
-    rw e (Memᴰ.append-right bs (Memᴰ.head (r.whole ∙ rw (zero-add n))))
+    rw e (Memᴰ.append_right bs (Memᴰ.head (r.whole ∙ rw (zero-add n))))
 
 pub block_iff : (s : List ℕ) (b : Placed) → Memᴰ b (blocks s) ↔ MaximalRun s b
 block_iff s b = ((λ m. let o = (blocks_iff s (blocks s)).0 refl in is_run s o.are_blocks [] refl o.are_lines (inl start) m), run_is s b)

@@ -43,21 +43,21 @@ ended_later l s n h (inr e) = inr (omega (arith, length-append l s))
 lines_ended : {s : List ℕ} (ls after : List (List ℕ)) → Lines s (ls ++ after) → 0 < length (bytes_of_lines ls) → LineEnded s (length (bytes_of_lines ls))
 lines_ended [] after p h = let no : ⊥ = omega arith in absurd no
 lines_ended (l ∷ []) after p h = let f = starts p in rw (f.whole, append-nil l) (line_ended f.is_line)
-lines_ended (l ∷ m ∷ ls) after p h =
+lines_ended {s = s} (l ∷ m ∷ ls) after p h =
     let f = starts p in
     let g = starts f.others in
     let k : 0 < length (bytes_of_lines (m ∷ ls)) = omega (arith, g.is_line.nonempty, length-append m (bytes_of_lines ls)) in
-    rw (f.whole, length-append l (bytes_of_lines (m ∷ ls))) (ended_later l f.rest (length (bytes_of_lines (m ∷ ls))) k (lines_ended (m ∷ ls) after f.others k))
+    rw (f.whole, length-append l (bytes_of_lines (m ∷ ls))) (ended_later l f.rest (length (bytes_of_lines (m ∷ ls))) k (lines_ended {s = f.rest} (m ∷ ls) after f.others k))
 
 -- a run of lines that others stand before
 run_ended : {s : List ℕ} (before ls after : List (List ℕ)) → Lines s (before ++ (ls ++ after)) → 0 < length (bytes_of_lines ls)
     → LineEnded s (length (bytes_of_lines before) + length (bytes_of_lines ls))
 run_ended [] ls after p h = rw zero-add (lines_ended ls after p h)
-run_ended (l ∷ before) ls after p h =
+run_ended {s = s} (l ∷ before) ls after p h =
     let f = starts p in
     let n = length (bytes_of_lines before) + length (bytes_of_lines ls) in
     let e : length (bytes_of_lines (l ∷ before)) + length (bytes_of_lines ls) ≡ length l + n = omega (arith, length-append l (bytes_of_lines before)) in
-    rw (f.whole, e) (ended_later l f.rest n (omega arith) (run_ended before ls after f.others h))
+    rw (f.whole, e) (ended_later l f.rest n (omega arith) (run_ended {s = f.rest} before ls after f.others h))
 
 module _ (s : List ℕ) (b : Placed) (mem : Memᴰ b (blocks s)) where
   -- a block goes on to an LF, or to the note's end

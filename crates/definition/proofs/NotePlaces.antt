@@ -57,7 +57,7 @@ module _ (s : List ℕ) where
   in_numbers block.done d m = absurd (Memᴰ.not-nil m)
   in_numbers (block.next {b = b} h w o) d m =
       ⊎_elim (λ x. longer (omega (arith, end_length s b w, w.inside)) (taken_numbers (up_to_end s b) b.at d x)) (λ y. in_numbers o d y)
-      (Memᴰ.append-cases (definitions_from (up_to_end s b) b.at).definitions m)
+      (Memᴰ.append_cases (definitions_from (up_to_end s b) b.at).definitions m)
 
   -- every number of a definition of the note s is at most its length
   pub definitions_inside : All (Numbers s) (definitions s)

@@ -81,7 +81,7 @@ module _ (T : Texts) where
   no_others m = (joined_one T m.joined).0
 
   pub defines_lies : {label : List ℕ} {j : Listed} → Defines T label j → Lies (text_of T j.text) j.definition
-  defines_lies {j = j} m = each_entry T Lies definitions_lie j (rw (no_others m.all) (Memᴰ.append-right m.before (Memᴰ.head refl)))
+  defines_lies {j = j} m = each_entry T Lies definitions_lie j (rw (no_others m.all) (Memᴰ.append_right m.before (Memᴰ.head refl)))
 
   module _ (label : List ℕ) where
     search_none : NoDefinition T label → answer_for T label ≡ enquiry.Undefined

@@ -44,10 +44,14 @@ code_text_read p q text t =
 
 pub row_read : (s : List ℕ) (offset : ℕ) (p : List ℕ) (ds : List Definition) {x : Span Tail} {row : List ℕ} → RowIs s offset p ds x row → span_row s offset p ds x ≡ row
 row_read s offset p ds (a_code_span {q} {text} t) = ap (λ (r : Range). numbers s (code_span_row (from_note offset (whole_of (code_span q))) (from_note offset r))) (code_text_read p q text t)
-row_read s offset p ds (inline_one {x = x}) = elim x [ link ↦ refl | image ↦ refl ]
-row_read s offset p ds (full_reference {x = x}) = elim x [ link ↦ refl | image ↦ refl ]
-row_read s offset p ds (collapsed_reference {x = x}) = elim x [ link ↦ refl | image ↦ refl ]
-row_read s offset p ds (shortcut_reference {x = x}) = elim x [ link ↦ refl | image ↦ refl ]
+row_read s offset p ds (inline_one {x = link}) = refl
+row_read s offset p ds (inline_one {x = image}) = refl
+row_read s offset p ds (full_reference {x = link}) = refl
+row_read s offset p ds (full_reference {x = image}) = refl
+row_read s offset p ds (collapsed_reference {x = link}) = refl
+row_read s offset p ds (collapsed_reference {x = image}) = refl
+row_read s offset p ds (shortcut_reference {x = link}) = refl
+row_read s offset p ds (shortcut_reference {x = image}) = refl
 
 rows_read : (s : List ℕ) (offset : ℕ) (p : List ℕ) (ds : List Definition) {xs : List (Span Tail)} {rows : List (List ℕ)} → Forall₂ (RowIs s offset p ds) xs rows
     → rows ≡ map (span_row s offset p ds) xs

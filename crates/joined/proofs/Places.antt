@@ -20,7 +20,7 @@ listed_from k [] j m = absurd (Memᴰ.not-nil m)
 listed_from k (d ∷ ds) j m =
     ⊎_elim (λ e. (d, (e, Memᴰ.head refl)))
     (λ n. let (c, w) = listed_from k ds j n in (c, (w.0, Memᴰ.tail w.1)))
-    (Memᴰ.cases-cons m)
+    (Memᴰ.cases_cons m)
 
 pub at_index : {A : Type 0} (l : List A) (k : ℕ) (o : A) → k < length l → Memᴰ (get_or l k o) l
 at_index [] k o h = absurd (omega arith)
@@ -37,7 +37,7 @@ module _ (T : Texts) (P : List ℕ → Definition → Type 0) (each : (s : List 
 
   pub each_entry : (j : Listed) → Memᴰ j (joined T) → Of j
   unfolding joined
-  each_entry j m = ⊎_elim (of_text 0 j) (of_text 1 j) (Memᴰ.append-cases (listed_in 0 (definitions T.note)) m)
+  each_entry j m = ⊎_elim (of_text 0 j) (of_text 1 j) (Memᴰ.append_cases (listed_in 0 (definitions T.note)) m)
 
   pub entry_at : (k : ℕ) → k < length (joined T) → Of (get_or (joined T) k past_end)
   entry_at k h = each_entry (get_or (joined T) k past_end) (at_index (joined T) k past_end h)

@@ -69,7 +69,7 @@ unfolding definitions_in reading.definitions_of definitions_from
 read_in_order s [] d m = absurd (Memᴰ.not-nil m)
 read_in_order s (b ∷ bs) d m =
     ⊎_elim (λ x. taken_in_order (up_to_end s b) (length (up_to_end s b)) b.at d x) (λ y. read_in_order s bs d y)
-    (Memᴰ.append-cases (definitions_from (up_to_end s b) b.at).definitions m)
+    (Memᴰ.append_cases (definitions_from (up_to_end s b) b.at).definitions m)
 
 definitions_in_order : (s : List ℕ) → Each (definitions s)
 unfolding definitions

@@ -97,7 +97,7 @@ module _ (s : List ℕ) (text : ℕ) (t₀ : List ℕ) (from : ℕ) (p₀ : List
       here = met.here
 
       in_text : Memᴰ d (definitions s)
-      in_text = rw (f.whole, here.first) (Memᴰ.append-right f.passed (Memᴰ.head refl))
+      in_text = rw (f.whole, here.first) (Memᴰ.append_right f.passed (Memᴰ.head refl))
 
       pub small : length s ≤ note_limit → Small d
       small h = definitions_small s (omega arith) d in_text

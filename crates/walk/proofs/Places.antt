@@ -50,7 +50,7 @@ module _ (s : List ℕ) where
       (λ q. absurd (Memᴰ.not-nil (rw (from_none (take e s) (suc k) at q) at m)))
       (λ c n q.
       ⊎_elim (λ i. subst (Lies s) (sym i) (lies e at c n h q)) (λ j. block_lies e h k n d j)
-      (Memᴰ.cases-cons (rw (from_one (take e s) k at c n q) at m)))
+      (Memᴰ.cases_cons (rw (from_one (take e s) k at c n q) at m)))
 
   all_lie : {from : ℕ} {bs : List Placed} → block.InOrder s from bs → (d : Definition) → Memᴰ d (definitions_in s bs) → Lies s d
   unfolding definitions_in definitions_of definitions_from
@@ -58,7 +58,7 @@ module _ (s : List ℕ) where
   all_lie (block.next {b = b} h w o) d m =
       let e = b.at + length b.bytes in
       ⊎_elim (λ x. block_lies e w.inside (length (take e s)) b.at d x) (λ y. all_lie o d y)
-      (Memᴰ.append-cases (taking_from (length (take e s)) (take e s) b.at).definitions m)
+      (Memᴰ.append_cases (taking_from (length (take e s)) (take e s) b.at).definitions m)
 
   pub definitions_lie : (d : Definition) → Memᴰ d (definitions s) → Lies s d
   unfolding definitions
