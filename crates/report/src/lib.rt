@@ -1,7 +1,7 @@
-// What the program `samples` writes, to any writer. Where the writer says what it holds, text and lines are appended to it as they are.
+// What the program `samples` writes, to any writer. Where the writer says what it holds, text, lines and numbers are appended to it.
 #![tactic(auto)]
 
-ghost use Rattle.std.specs.Prelude.{◌<◌, ◌≤◌, [], ◌∷◌, ◌++◌, OnOk};
+ghost use Rattle.std.specs.Prelude.{◌<◌, ◌≤◌, [], ◌∷◌, ◌++◌, OnOk, decimal};
 ghost use Rattle.std.specs.Io.KnownBytes.{Appends};
 
 use notice::{Reading, answer};
@@ -28,7 +28,9 @@ pub fn line<W: Write>(to: &mut W, bytes: &[u8]) -> io::Result<()>
 }
 
 // A space and the number.
-pub fn number<W: Write>(to: &mut W, n: u64) -> io::Result<()> {
+pub fn number<W: Write>(to: &mut W, n: u64) -> io::Result<()>
+    ensures { OnOk result (Appends (W.contents to.old) (W.contents to.new) (32 ∷ decimal n)) }
+{
     write!(to, " {n}")
 }
 
