@@ -30,7 +30,7 @@ pub loop-p-smaller : goal.loop-p-smaller
 loop-p-smaller c = omega arith
 
 pub loop-p-preserved : goal.loop-p-preserved
-loop-p-preserved c = (omega arith, below_more (Follows _ _ _ _) _ c.loop-p.invariant.1 (c.follows.ensures (not-false _ c.if-not-follows.false-raw)))
+loop-p-preserved c = (omega arith, below_more (Follows _ _ _ _) _ c.loop-p.invariant.1 (c.follows.ensures c.if-not-follows.false))
 
 pub returns : goal.returns
 returns c = λ e. sorted_all _ (omega arith) (λ p h. c.loop-p.invariant.1 p (omega arith))

@@ -27,7 +27,7 @@ pub loop-k-smaller : goal.loop-k-smaller
 loop-k-smaller c = omega arith
 
 pub loop-k-preserved : goal.loop-k-preserved
-loop-k-preserved c = (omega arith, below_more (Stands _ _) _ c.loop-k.invariant.1 (c.stands.ensures (not-false _ c.if-not-stands.false-raw)))
+loop-k-preserved c = (omega arith, below_more (Stands _ _) _ c.loop-k.invariant.1 (c.stands.ensures c.if-not-stands.false))
 
 pub returns : goal.returns
 returns c = λ e l h. c.loop-k.invariant.1 l (omega arith)
