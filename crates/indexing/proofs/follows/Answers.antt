@@ -1,7 +1,6 @@
 -- Both numbers are entries, and one comes before the other.
 use mathlib.Core.Path.{sym}
 use mathlib.Core.Bool.{true≢false}
-use borrow.Author.Tests.{not-false}
 use Rattle.indexing.proofs.Turn.{follows_first, follows_on}
 use Rattle.indexing.proofs.follows.Goals as goal
 
@@ -16,10 +15,10 @@ returns-then-not-is_entry-2 c = λ e. absurd (true≢false (sym e))
 
 pub comes_before-requires : goal.comes_before-requires
 comes_before-requires c = record {
-        fit = c.requires.fit;
-        entry = c.is_entry-2.ensures c.if-not-is_entry-2.false;
-        entry_2 = c.is_entry.ensures c.if-not-is_entry.false;
-    }
+  fit = c.requires.fit;
+  entry = c.is_entry-2.ensures c.if-not-is_entry-2.false;
+  entry_2 = c.is_entry.ensures c.if-not-is_entry.false;
+}
 
 pub returns : goal.returns
 returns c = λ e. follows_on _ _ (c.is_entry.ensures c.if-not-is_entry.false) c.if-p-eq0.false (c.comes_before.ensures e)

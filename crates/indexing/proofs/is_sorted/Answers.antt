@@ -1,10 +1,8 @@
 -- The places passed follow one another.
 use native.Mathlib.Omega.{arith}
-use Prim.Native.Nat.{◌-◌}
 use mathlib.Core.Path.{sym}
 use mathlib.Core.Bool.{true≢false}
 use borrow.Author.Count.{below_more}
-use borrow.Author.Tests.{not-false}
 use Rattle.indexing.specs.Building.{Follows}
 use Rattle.indexing.proofs.Turn.{sorted_all}
 use Rattle.indexing.proofs.is_sorted.Goals as goal
@@ -14,11 +12,11 @@ loop-p-init c = (omega arith, λ k h. absurd (omega arith))
 
 pub follows-requires : goal.follows-requires
 follows-requires c = record {
-        fit = c.requires.fit;
-        count_le_rows = c.requires.count_le_rows;
-        entries = c.requires.entries;
-        p_in_bounds = omega arith;
-    }
+  fit = c.requires.fit;
+  count_le_rows = c.requires.count_le_rows;
+  entries = c.requires.entries;
+  p_in_bounds = omega arith;
+}
 
 pub returns-then-not-follows : goal.returns-then-not-follows
 returns-then-not-follows c = λ e. absurd (true≢false (sym e))
