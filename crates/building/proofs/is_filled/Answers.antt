@@ -8,4 +8,4 @@ pub returns-then-not-arrange : goal.returns-then-not-arrange
 returns-then-not-arrange c = λ e. absurd (true≢false (sym e))
 
 pub returns : goal.returns
-returns c = λ e. record { sorted = c.arrange.ensures (not-false _ c.if-not-arrange.false-raw); covers = c.is_whole.ensures e }
+returns c = λ e. record { sorted = c.arrange.ensures c.if-not-arrange.false; covers = c.is_whole.ensures e }

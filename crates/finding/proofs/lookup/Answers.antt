@@ -19,15 +19,15 @@ bound-at-requires c =
 pub returns-then-not-same : goal.returns-then-not-same
 returns-then-not-same c =
     let b = c.bound-at.ensures in
-    sym (missing _ _ _ _ c.requires.holds c.args.label.now _ b.window_2 (b.seen.miss (not-true _ c.if-not-same.true-raw)))
+    sym (missing _ _ _ _ c.requires.holds c.args.label.now _ b.window_2 (b.seen.miss c.if-not-same.true))
 
 pub bounds-index-at : goal.bounds-index-at
 bounds-index-at c =
-    let s = (c.bound-at.ensures.seen.hit (not-false _ c.if-not-same.false-raw)).0 in
+    let s = (c.bound-at.ensures.seen.hit c.if-not-same.false).0 in
     omega (arith, c.requires.holds.sorted.room)
 
 pub returns : goal.returns
 returns c =
     let b = c.bound-at.ensures in
-    let h = b.seen.hit (not-false _ c.if-not-same.false-raw) in
+    let h = b.seen.hit c.if-not-same.false in
     ap At c.row_in.ensures ∙ sym (found _ _ _ _ c.requires.holds c.args.label.now _ b.window_2 h.0 h.1)

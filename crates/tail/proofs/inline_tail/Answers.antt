@@ -43,18 +43,18 @@ returns-then-peek-ne40 c = record {
 
 pub destination-requires : goal.destination-requires
 destination-requires c = record {
-        at_value = starts_plain _ c.peek.ensures c.if-peek-ne40.false c.space_end_lem.ensures;
+        at_value = starts_plain _ c.peek.ensures c.if-peek-ne40.false c.space_end-g.ensures;
         prepared = c.requires;
     }
 
 pub returns-in-Span : goal.returns-in-Span
 returns-in-Span c = record {
-        value = with_destination _ c.peek.ensures c.if-peek-ne40.false c.space_end_lem.ensures c.destination.ensures.value c.in-Span.is c.space_end.ensures c.new.ensures c.after_destination.ensures;
+        value = with_destination _ c.peek.ensures c.if-peek-ne40.false c.space_end-g.ensures c.destination.ensures.value c.in-Span.is c.space_end-in-Span.ensures c.new.ensures c.after_destination.ensures;
         prepared = c.destination.ensures.prepared_2;
     }
 
 pub returns-in-Nothing : goal.returns-in-Nothing
 returns-in-Nothing c = record {
-        value = without _ c.peek.ensures c.if-peek-ne40.false c.space_end_lem.ensures c.destination.ensures.value c.in-Nothing.is c.space_end-in-Nothing.ensures c.absent.ensures c.absent-in-Nothing.ensures c.closed_at.ensures;
+        value = without _ c.peek.ensures c.if-peek-ne40.false c.space_end-g.ensures c.destination.ensures.value c.in-Nothing.is c.space_end-in-Nothing.ensures c.absent.ensures c.absent-in-Nothing.ensures c.closed_at.ensures;
         prepared = c.destination.ensures.prepared_2;
     }
