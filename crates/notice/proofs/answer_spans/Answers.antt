@@ -17,7 +17,7 @@ store_spans-requires c = record {
         ready = c.requires.ready;
         remembers = c.requires.remembers;
         lent = record { places = omega (arith, length-replicate {A = ℕ} (depth_limit + depth_limit) 0); bytes = c.requires.note_in_bounds };
-        surely = rw c.whole_rows_lem.ensures at (c.surely_fits.ensures c.if-surely_fits.true);
+        surely = rw c.whole_rows.ensures at (c.surely_fits.ensures c.if-surely_fits.true);
     }
 
 pub count_spans-requires : goal.count_spans-requires

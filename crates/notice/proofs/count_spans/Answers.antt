@@ -9,7 +9,7 @@ pub returns-then-w-eq0 : goal.returns-then-w-eq0
 returns-then-w-eq0 c = none_there (texts c.args.note.now c.args.sheet.now) c.args.count c.note_spans.ensures.note_marked c.args.spans.now c.in-Spans.is c.if-w-eq0.true
 
 pub returns-then-whole_rows-w : goal.returns-then-whole_rows-w
-returns-then-whole_rows-w c = too_few_rows (texts c.args.note.now c.args.sheet.now) c.args.count c.note_spans.ensures.note_marked c.args.spans.now c.in-Spans.is c.whole_rows_lem.ensures c.if-whole_rows-w.true
+returns-then-whole_rows-w c = too_few_rows (texts c.args.note.now c.args.sheet.now) c.args.count c.note_spans.ensures.note_marked c.args.spans.now c.in-Spans.is c.whole_rows.ensures c.if-whole_rows-w.true
 
 pub note_spans-requires-in-Spans : goal.note_spans-requires-in-Spans
 note_spans-requires-in-Spans c = let p = c.requires in record {
@@ -35,4 +35,4 @@ pub shape_of-marks-else-whole_rows-w : goal.shape_of-marks-else-whole_rows-w
 shape_of-marks-else-whole_rows-w c = omega (arith, c.note_spans-in-Spans.auto.marks, c.note_spans.auto.marks)
 
 pub returns-else-whole_rows-w : goal.returns-else-whole_rows-w
-returns-else-whole_rows-w c = all_stored (texts c.args.note.now c.args.sheet.now) c.args.count c.note_spans.ensures.note_marked c.args.spans.now c.in-Spans.is c.whole_rows_lem.ensures c.if-whole_rows-w.false c.note_spans-in-Spans.ensures.note_marked
+returns-else-whole_rows-w c = all_stored (texts c.args.note.now c.args.sheet.now) c.args.count c.note_spans.ensures.note_marked c.args.spans.now c.in-Spans.is c.whole_rows.ensures c.if-whole_rows-w.false c.note_spans-in-Spans.ensures.note_marked

@@ -18,17 +18,17 @@ first_conflict-requires c = record {
     }
 
 pub overflow_add-result : goal.overflow_add-result
-overflow_add-result c = omega (arith, conflict_within (texts c.args.note.now c.args.sheet.now) c.first_conflict_lem.ensures.0 c.in-At.is c.requires.defined.counted)
+overflow_add-result c = omega (arith, conflict_within (texts c.args.note.now c.args.sheet.now) c.first_conflict.ensures.value c.in-At.is c.requires.defined.counted)
 
 pub read_spans-requires-in-Nothing : goal.read_spans-requires-in-Nothing
 read_spans-requires-in-Nothing c = record {
         defined = c.requires.defined;
-        ready = c.first_conflict_lem.ensures.1;
+        ready = c.first_conflict.ensures.ready_2;
         remembers = c.requires.remembers;
     }
 
 pub returns-in-At : goal.returns-in-At
-returns-in-At c = stopped (not-false _ c.if-not-release.false-raw) c.first_conflict_lem.ensures.0 c.in-At.is
+returns-in-At c = stopped (not-false _ c.if-not-release.false-raw) c.first_conflict.ensures.value c.in-At.is
 
 pub returns-in-Nothing : goal.returns-in-Nothing
-returns-in-Nothing c = goes_on (λ e. sym c.first_conflict_lem.ensures.0 ∙ c.in-Nothing.is) c.read_spans-in-Nothing.ensures
+returns-in-Nothing c = goes_on (λ e. sym c.first_conflict.ensures.value ∙ c.in-Nothing.is) c.read_spans-in-Nothing.ensures

@@ -26,7 +26,7 @@ pub store_definitions-requires : goal.store_definitions-requires
 store_definitions-requires c = record {
         good_texts = good (texts c.args.note.now c.args.sheet.now) c.check.ensures.answer c.in-Good.is;
         note_in_bounds = c.requires (short_note (texts c.args.note.now c.args.sheet.now) c.check.ensures.answer c.in-Good.is);
-        sheet_len_bound = rw c.whole_rows_lem.ensures at (within_third (texts c.args.note.now c.args.sheet.now) c.if-note-sheet.true);
+        sheet_len_bound = rw c.whole_rows.ensures at (within_third (texts c.args.note.now c.args.sheet.now) c.if-note-sheet.true);
     }
 
 pub count_definitions-requires : goal.count_definitions-requires

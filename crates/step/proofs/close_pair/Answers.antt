@@ -16,9 +16,9 @@ pub returns-then-image-opening : goal.returns-then-image-opening
 returns-then-image-opening c =
     let w = c.args.w in
     let p = c.requires in record {
-        closes = (step_held _ _ _ _ _ w _ c.args.opening p.lined_pair.pair.open_at p.lined_pair.pair.text.close_at c.if-image-opening.true _ _, refl, refl);
-        prepared_2 = later (omega arith) p.prepared;
-        indexed_2 = p.indexed;
+      closes = (step_held _ _ _ _ _ w _ c.args.opening p.lined_pair.pair.open_at p.lined_pair.pair.text.close_at c.if-image-opening.true _ _, refl, refl);
+      prepared_2 = later (omega arith) p.prepared;
+      indexed_2 = p.indexed;
     }
 
 pub text_from-from-requires : goal.text_from-from-requires
@@ -27,64 +27,61 @@ text_from-from-requires c =
 
 pub tail_at-requires : goal.tail_at-requires
 tail_at-requires c = let p = c.requires in record {
-        text_to = rw c.text_from-from.ensures p.lined_pair.pair.text;
-        fit = p.fit;
-        indexed = p.indexed;
-        prepared = p.prepared;
-    }
+  text_to = rw c.text_from-from.ensures p.lined_pair.pair.text;
+  fit = p.fit;
+  indexed = p.indexed;
+  prepared = p.prepared;
+}
 
 pub returns-in_default : goal.returns-in_default
 returns-in_default c =
     let w = c.args.w in
     let p = c.requires in
     let told = c.tail_at.ensures in record {
-        closes = (
+      closes = (
         step_tailless _ _ _ _ _ w _ c.args.opening p.lined_pair.pair.open_at p.lined_pair.pair.text.close_at c.if-image-opening.false
             (told_of c.args.p.now _ c.args.opening w.at c.text_from-from.ensures c.in_default.is told.result_value) _ _,
         refl,
         refl,
       );
-        prepared_2 = (told.prepared_2, told.indexed_2);
-        indexed_2 = ;
+      prepared_2 = told.prepared_2;
+      indexed_2 = told.indexed_2;
     }
 
 pub pair_row-row-requires : goal.pair_row-row-requires
 pair_row-row-requires c =
     let a = c.args in
     let p = c.requires in
-    let t = c.in-With.auto.t in
+    let t = c.in-With in
     let told = c.tail_at.ensures in
-    let e = told_of a.p.now _ a.opening a.w.at c.text_from-from.ensures t.1 told.result_value in
+    let e = told_of a.p.now _ a.opening a.w.at c.text_from-from.ensures t.is told.result_value in
     let T = texts a.note.now a.sheet.now in record {
-        names = row_names a.p.now T a.definitions.now a.start a.count a.opening a.w p.lined_pair.pair p.bounds p.fit t.0.0 e;
-        sized = (
-        subst Sized? t.1 told.sized,
-        row_small a.p.now T a.definitions.now a.start a.count a.opening a.w p.lined_pair.pair p.bounds p.fit t.0.0 e (λ i. (c.type_inv.definitions i).fits),
-      );
-        small = ;
+      names = row_names a.p.now T a.definitions.now a.start a.count a.opening a.w p.lined_pair.pair p.bounds p.fit t.t e;
+      sized = subst Sized? t.is told.sized;
+      small = row_small a.p.now T a.definitions.now a.start a.count a.opening a.w p.lined_pair.pair p.bounds p.fit t.t e (λ i. (c.type_inv.definitions i).fits);
     }
 
 pub store-requires : goal.store-requires
 store-requires c =
     let a = c.args in
     let p = c.requires in
-    let t = c.in-With.auto.t in
-    let e = told_of a.p.now _ a.opening a.w.at c.text_from-from.ensures t.1 c.tail_at.ensures.result_value in
+    let t = c.in-With in
+    let e = told_of a.p.now _ a.opening a.w.at c.text_from-from.ensures t.is c.tail_at.ensures.result_value in
     let T = texts a.note.now a.sheet.now in record {
-        small = rw c.pair_row-row.ensures
-          (row_small a.p.now T a.definitions.now a.start a.count a.opening a.w p.lined_pair.pair p.bounds p.fit t.0.0 e (λ i. (c.type_inv.definitions i).fits));
-        line_bound = (p.lined_pair.small, );
+      small = rw c.pair_row-row.ensures
+          (row_small a.p.now T a.definitions.now a.start a.count a.opening a.w p.lined_pair.pair p.bounds p.fit t.t e (λ i. (c.type_inv.definitions i).fits));
+      line_bound = p.lined_pair.small;
     }
 
 pub overflow_add-v : goal.overflow_add-v
 overflow_add-v c =
     let a = c.args in
     let p = c.requires in
-    let t = c.in-With.auto.t in
+    let t = c.in-With in
     let told = c.tail_at.ensures in
-    let e = told_of a.p.now _ a.opening a.w.at c.text_from-from.ensures t.1 told.result_value in
-    let sized = subst Sized? t.1 told.sized in
-    let ends = tail_end a.p.now (texts a.note.now a.sheet.now) a.definitions.now a.start a.count a.opening a.w p.lined_pair.pair p.bounds p.fit t.0.0 e in
+    let e = told_of a.p.now _ a.opening a.w.at c.text_from-from.ensures t.is told.result_value in
+    let sized = subst Sized? t.is told.sized in
+    let ends = tail_end a.p.now (texts a.note.now a.sheet.now) a.definitions.now a.start a.count a.opening a.w p.lined_pair.pair p.bounds p.fit t.t e in
     omega (arith, ends, p.bounds.places, sized (a.w.at + 1))
 
 pub overflow_add-v-2 : goal.overflow_add-v-2
@@ -94,17 +91,17 @@ pub returns : goal.returns
 returns c =
     let w = c.args.w in
     let p = c.requires in
-    let t = c.in-With.auto.t in
+    let t = c.in-With in
     let told = c.tail_at.ensures in
-    let e = told_of c.args.p.now _ c.args.opening w.at c.text_from-from.ensures t.1 told.result_value in
-    let sized = subst Sized? t.1 told.sized in
+    let e = told_of c.args.p.now _ c.args.opening w.at c.text_from-from.ensures t.is told.result_value in
+    let sized = subst Sized? t.is told.sized in
     let row = c.pair_row-row.ensures in
     let stored = row_stored _ _ _ row p.lined_pair.is_line c.store.ensures in record {
-        closes = (
-        step_taken _ _ _ _ _ w _ c.args.opening p.lined_pair.pair.open_at p.lined_pair.pair.text.close_at c.if-image-opening.false (shown (w.at + 1) t.0.0) e (sized (w.at + 1)) c.last_link.ensures row stored _ _,
+      closes = (
+        step_taken _ _ _ _ _ w _ c.args.opening p.lined_pair.pair.open_at p.lined_pair.pair.text.close_at c.if-image-opening.false (shown (w.at + 1) t.t) e (sized (w.at + 1)) c.last_link.ensures row stored _ _,
         refl,
         refl,
       );
-        prepared_2 = (later (omega arith) told.prepared_2, told.indexed_2);
-        indexed_2 = ;
+      prepared_2 = later (omega arith) told.prepared_2;
+      indexed_2 = told.indexed_2;
     }

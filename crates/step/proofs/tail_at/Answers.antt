@@ -11,16 +11,18 @@ pub tail_after-requires : goal.tail_after-requires
 tail_after-requires c =
     let a = c.args in
     let p = c.requires in record {
-        fit = p.fit;
-        ready = p.indexed;
-        prepared = lent a.p.now a.closing p.text_to.close_at p.text_to.inside a.marks.now p.prepared;
+      fit = p.fit;
+      ready = p.indexed;
+      prepared = lent a.p.now a.closing p.text_to.close_at p.text_to.inside a.marks.now p.prepared;
     }
 
 pub returns : goal.returns
 returns c =
     let a = c.args in
     let p = c.requires in
-    let told = c.tail_after.ensures in (
-      told.by_index (a.closing + 1) ∙ tail_here a.p.now (labels_in (texts a.note.now a.sheet.now) a.definitions.now a.count) a.from a.closing,
-      (told.sized, (told.ready_2, back a.p.now a.closing p.text_to.close_at p.text_to.inside a.marks.now _ _ p.prepared told.prepared_2)),
-    )
+    let told = c.tail_after.ensures in record {
+      result_value = told.by_index (a.closing + 1) ∙ tail_here a.p.now (labels_in (texts a.note.now a.sheet.now) a.definitions.now a.count) a.from a.closing;
+      sized = told.sized;
+      indexed_2 = told.ready_2;
+      prepared_2 = back a.p.now a.closing p.text_to.close_at p.text_to.inside a.marks.now _ _ p.prepared told.prepared_2;
+    }
