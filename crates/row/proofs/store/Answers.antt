@@ -8,21 +8,21 @@ use Rattle.row.proofs.store.Goals as goal
 
 pub store_range-requires : goal.store_range-requires
 store_range-requires c = let h = rw c.whole_rows.ensures at c.if-k-whole_rows.true in record {
-        at_in_bounds = simp length-set (omega arith);
-        small_part = search rules;
-    }
+  at_in_bounds = simp length-set (omega arith);
+  small_part = search rules;
+}
 
 pub store_range-requires-then-k-whole_rows : goal.store_range-requires-then-k-whole_rows
 store_range-requires-then-k-whole_rows c = let h = rw c.whole_rows.ensures at c.if-k-whole_rows.true in let n = simp length-set at c.store_range.auto.table in record {
-        at_in_bounds = omega (arith, h, n);
-        small_part = search rules;
-    }
+  at_in_bounds = omega (arith, h, n);
+  small_part = search rules;
+}
 
 pub store_range-requires-then-k-whole_rows-2 : goal.store_range-requires-then-k-whole_rows-2
 store_range-requires-then-k-whole_rows-2 c = let h = rw c.whole_rows.ensures at c.if-k-whole_rows.true in let n = simp length-set at c.store_range.auto.table in record {
-        at_in_bounds = omega (arith, h, n, c.store_range-then-k-whole_rows.auto.table);
-        small_part = search rules;
-    }
+  at_in_bounds = omega (arith, h, n, c.store_range-then-k-whole_rows.auto.table);
+  small_part = search rules;
+}
 
 pub bounds-table-at-then-k-whole_rows : goal.bounds-table-at-then-k-whole_rows
 bounds-table-at-then-k-whole_rows c = let h = rw c.whole_rows.ensures at c.if-k-whole_rows.true in let n = simp length-set at c.store_range.auto.table in omega (arith, h, n, c.store_range-then-k-whole_rows-2.auto.table, c.store_range-then-k-whole_rows.auto.table)
