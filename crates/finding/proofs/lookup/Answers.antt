@@ -1,7 +1,6 @@
 -- Where the search ends stands the first row with an equal label, or there is none.
 use native.Mathlib.Omega.{arith}
 use mathlib.Core.Path.{sym, ap, ◌∙◌}
-use borrow.Author.Tests.{not-true, not-false}
 use Rattle.scan.specs.declared.Found.TheVariants.{At}
 use Rattle.index.proofs.Search.{found, missing}
 use Rattle.finding.proofs.lookup.Goals as goal
