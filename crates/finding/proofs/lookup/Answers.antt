@@ -8,11 +8,11 @@ use Rattle.finding.proofs.lookup.Goals as goal
 pub bound-at-requires : goal.bound-at-requires
 bound-at-requires c =
     let r = c.requires in record {
-        fit = r.fit;
-        sorted = r.holds.sorted;
-        h_value = c.key_of-h.ensures;
-        window = c.window-from.ensures.window;
-        back = c.window-from.ensures.back;
+      fit = r.fit;
+      sorted = r.holds.sorted;
+      h_value = c.key_of-h.ensures;
+      window = c.window-from.ensures.window;
+      back = c.window-from.ensures.back;
     }
 
 pub returns-then-not-same : goal.returns-then-not-same
