@@ -1,7 +1,6 @@
 -- The entries are checked to be in order, and to be those of all rows.
 use mathlib.Core.Path.{sym}
 use mathlib.Core.Bool.{true≢false}
-use borrow.Author.Tests.{not-false}
 use Rattle.building.proofs.is_filled.Goals as goal
 
 pub returns-then-not-arrange : goal.returns-then-not-arrange

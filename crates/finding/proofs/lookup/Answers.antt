@@ -1,7 +1,6 @@
 -- Where the search ends stands the first row with an equal label, or there is none.
 use native.Mathlib.Omega.{arith}
 use mathlib.Core.Path.{sym, ap, ◌∙◌}
-use borrow.Author.Tests.{not-true, not-false}
 use Rattle.scan.specs.declared.Found.TheVariants.{At}
 use Rattle.index.proofs.Search.{found, missing}
 use Rattle.finding.proofs.lookup.Goals as goal
@@ -9,11 +8,11 @@ use Rattle.finding.proofs.lookup.Goals as goal
 pub bound-at-requires : goal.bound-at-requires
 bound-at-requires c =
     let r = c.requires in record {
-        fit = r.fit;
-        sorted = r.holds.sorted;
-        h_value = c.key_of-h.ensures;
-        window = c.window-from.ensures.window;
-        back = c.window-from.ensures.back;
+      fit = r.fit;
+      sorted = r.holds.sorted;
+      h_value = c.key_of-h.ensures;
+      window = c.window-from.ensures.window;
+      back = c.window-from.ensures.back;
     }
 
 pub returns-then-not-same : goal.returns-then-not-same
