@@ -17,12 +17,6 @@ next_listed-requires c = record {
   at_value = c.loop-start.invariant.looked;
 }
 
-pub enum_known-start : goal.enum_known-start
-enum_known-start c = search turns
-
-pub enum_told-1 : goal.enum_told-1
-enum_told-1 c = search turns
-
 pub shape_of-page-in_default : goal.shape_of-page-in_default
 shape_of-page-in_default c = c.loop-start.invariant.written.same
 
