@@ -13,11 +13,11 @@ returns-then-whole_rows-w c = too_few_rows (texts c.args.note.now c.args.sheet.n
 
 pub note_spans-requires-in-Spans : goal.note_spans-requires-in-Spans
 note_spans-requires-in-Spans c = let p = c.requires in record {
-        defined = p.defined;
-        indexed = c.note_spans.ensures.indexed_2;
-        remembers = p.remembers;
-        lent = record { places = omega (arith, c.note_spans.auto.stack, p.lent.places); bytes = omega (arith, c.note_spans.auto.marks, p.lent.bytes) };
-    }
+  defined = p.defined;
+  indexed = c.note_spans.ensures.indexed_2;
+  remembers = p.remembers;
+  lent = record { places = omega (arith, c.note_spans.auto.stack, p.lent.places); bytes = omega (arith, c.note_spans.auto.marks, p.lent.bytes) };
+}
 
 pub returns-in-Deep : goal.returns-in-Deep
 returns-in-Deep c = search (too_many_open, rules)

@@ -16,11 +16,11 @@ close_pair-requires c =
     let a = c.args in
     let p = c.requires in
     let small = (c.type_inv.stack (depth_limit + (a.w.depth - 1))).fits in record {
-        lined_pair = pair_on_top a.note.now a.start a.p.now a.spans.now a.w a.stack.now p.waits p.closing small;
-        bounds = p.bounds;
-        fit = p.fit;
-        indexed = p.indexed;
-        prepared = p.prepared;
+      lined_pair = pair_on_top a.note.now a.start a.p.now a.spans.now a.w a.stack.now p.waits p.closing small;
+      bounds = p.bounds;
+      fit = p.fit;
+      indexed = p.indexed;
+      prepared = p.prepared;
     }
 
 pub returns : goal.returns
@@ -28,7 +28,7 @@ returns c =
     let a = c.args in
     let p = c.requires in
     let closed = c.close_pair.ensures in record {
-        brackets = bracket_closes a.note.now a.start a.p.now a.spans.now a.w a.stack.now p.waits p.closing _ _ p.lined closed.closes;
-        prepared_2 = closed.prepared_2;
-        indexed_2 = closed.indexed_2;
+      brackets = bracket_closes a.note.now a.start a.p.now a.spans.now a.w a.stack.now p.waits p.closing _ _ p.lined closed.closes;
+      prepared_2 = closed.prepared_2;
+      indexed_2 = closed.indexed_2;
     }

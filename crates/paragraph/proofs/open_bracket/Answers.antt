@@ -10,6 +10,6 @@ overflow_cast-stack-2 c = let a = c.args in let p = c.requires in omega (arith, 
 
 pub returns : goal.returns
 returns c = let a = c.args in record {
-        value = opened_by a.note.now a.start a.spans.now a.w a.size c.count_lines-v.ensures;
-        stack_after = refl;
-    }
+  value = opened_by a.note.now a.start a.spans.now a.w a.size c.count_lines-v.ensures;
+  stack_after = refl;
+}

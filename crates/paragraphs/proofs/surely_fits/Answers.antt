@@ -10,10 +10,10 @@ loop-start-init c = (tallied_starts _, omega arith, start_from _ _)
 
 pub next_listed-requires : goal.next_listed-requires
 next_listed-requires c = record {
-        remembers = c.requires.remembers;
-        k_le_n = c.loop-start.invariant.1;
-        at_value = c.loop-start.invariant.2;
-    }
+  remembers = c.requires.remembers;
+  k_le_n = c.loop-start.invariant.1;
+  at_value = c.loop-start.invariant.2;
+}
 
 pub returns-in_default : goal.returns-in_default
 returns-in_default c = λ y. all_tallied _ c.loop-start.invariant.0 c.next_listed.ensures.read c.in_default.is y
