@@ -1,5 +1,7 @@
 -- Each arm is one case of the definition.
-use borrow.Author.Tests.{ne_eqb}
+use native.Mathlib.Omega.{arith}
+use Rattle.std.proofs.lemmas.Grind.{common_steps}
+use Rattle.std.proofs.lemmas.Bool.Decides.{nat_tests}
 use Rattle.folding.specs.Word.{several_word}
 use Rattle.folding.proofs.several_word.Goals as goal
 
@@ -29,6 +31,4 @@ returns-in-944 c = rw c.in-944.is
 
 pub returns-in_default : goal.returns-in_default
 unfolding several_word
-returns-in_default c =
-    let r = c.in_default.in_default-own.rest in
-    simp (ne_eqb _ _ r.1, ne_eqb _ _ r.0.1, ne_eqb _ _ r.0.0.1, ne_eqb _ _ r.0.0.0.1, ne_eqb _ _ r.0.0.0.0.1, ne_eqb _ _ r.0.0.0.0.0.1)
+returns-in_default c = grind (arith, common_steps, nat_tests)
