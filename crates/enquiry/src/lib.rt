@@ -115,7 +115,7 @@ pub fn enquire(note: &[u8], sheet: &[u8], label: &[u8]) -> Enquiry
 // Hands back the destination as a part of the text that defines the label, and stores the answer's number, its value and that text's
 // number beside it.
 pub fn resolve<'a>(note: &'a [u8], sheet: &'a [u8], label: &[u8], answer: &mut [u64; 3]) -> &'a [u8]
-    ensures { Resolved (texts note.now sheet.now) label.now note.entry.ref_ptr sheet.entry.ref_ptr (texts note.now sheet.now) label.now answer.new result.now result.ref_ptr }
+    ensures { Resolved (texts note.now sheet.now) label.now note.entry.ref_ptr sheet.entry.ref_ptr (texts note.exit.now sheet.exit.now) label.exit.now answer.new result.now result.ref_ptr }
 {
     let e = enquire(note, sheet, label);
     *answer = [number(e), value(e), named(e)];

@@ -264,7 +264,7 @@ fn store_definitions<'a>(
     requires good_texts { GoodTexts (texts note.now sheet.now) }
     requires note_in_bounds { length note.now < length list.old }
     requires sheet_len_bound { length (joined (texts note.now sheet.now)) ≤ definition_rows definitions.old }
-    ensures promise { Promise release (texts note.now sheet.now) definitions.old spans.old result.reading (texts note.now sheet.now) definitions.new spans.new }
+    ensures promise { Promise release (texts note.now sheet.now) definitions.old spans.old result.reading (texts note.exit.now sheet.exit.now) definitions.new spans.new }
     ensures remembers { number_of result.reading ≡ 0 → Remembers note.now list.new result.paragraphs }
 {
     let found = table::fill_joined(note, sheet, definitions, list);
@@ -297,7 +297,7 @@ fn count_definitions<'a>(
 ) -> Listed
     requires good_texts { GoodTexts (texts note.now sheet.now) }
     requires note_in_bounds { length note.now < length list.old }
-    ensures promise { Promise release (texts note.now sheet.now) definitions.old spans.old result.reading (texts note.now sheet.now) definitions.new spans.new }
+    ensures promise { Promise release (texts note.now sheet.now) definitions.old spans.old result.reading (texts note.exit.now sheet.exit.now) definitions.new spans.new }
     ensures remembers { number_of result.reading ≡ 0 → Remembers note.now list.new result.paragraphs }
 {
     let found = table::fill_joined(note, sheet, &mut definitions[..0], list);
@@ -334,7 +334,7 @@ pub fn read_listed<'a>(
     list: &mut [u16],
 ) -> Listed
     requires { length note.now ≤ note_limit → length note.now < length list.old }
-    ensures promise { Promise release (texts note.now sheet.now) definitions.old spans.old result.reading (texts note.now sheet.now) definitions.new spans.new }
+    ensures promise { Promise release (texts note.now sheet.now) definitions.old spans.old result.reading (texts note.exit.now sheet.exit.now) definitions.new spans.new }
     ensures remembers { number_of result.reading ≡ 0 → Remembers note.now list.new result.paragraphs }
 {
     match texts::check(note, sheet) {
@@ -361,7 +361,7 @@ pub fn read<'a>(
     definitions: &mut [u32],
     spans: &mut [u32],
 ) -> Reading
-    ensures { Promise release (texts note.now sheet.now) definitions.old spans.old result (texts note.now sheet.now) definitions.new spans.new }
+    ensures { Promise release (texts note.now sheet.now) definitions.old spans.old result (texts note.exit.now sheet.exit.now) definitions.new spans.new }
 {
     if note.len() <= SHORT {
         let mut list = [0u16; SHORT + 1];

@@ -19,7 +19,7 @@ pub extern "C" fn notice_read<'a>(
     spans: &mut [u32],
     answer: &mut [u64; 4],
 ) -> u32
-    ensures { ReadPromise release (texts note.now sheet.now) definitions.old spans.old result (texts note.now sheet.now) definitions.new spans.new answer.new }
+    ensures { ReadPromise release (texts note.now sheet.now) definitions.old spans.old result (texts note.exit.now sheet.exit.now) definitions.new spans.new answer.new }
 {
     let reading = notice::read(note, sheet, release != 0, definitions, spans);
     let number = notice::answer::number(reading);
@@ -43,7 +43,7 @@ pub extern "C" fn notice_render<'a>(
     page: &mut [u8],
     answer: &mut [u64; 5],
 ) -> u32
-    ensures { RenderPromise release (texts note.now sheet.now) definitions.old spans.old page.old result (texts note.now sheet.now) definitions.new spans.new page.new answer.new }
+    ensures { RenderPromise release (texts note.now sheet.now) definitions.old spans.old page.old result (texts note.exit.now sheet.exit.now) definitions.new spans.new page.new answer.new }
 {
     let rendering = rendering::render(note, sheet, release != 0, definitions, spans, page);
     let number = rendering::number(rendering);
@@ -75,7 +75,7 @@ pub extern "C" fn notice_resolve<'a>(
     label: &[u8],
     answer: &mut [u64; 4],
 ) -> u32
-    ensures { ResolvePromise (texts note.now sheet.now) label.now result (texts note.now sheet.now) label.now answer.new }
+    ensures { ResolvePromise (texts note.now sheet.now) label.now result (texts note.exit.now sheet.exit.now) label.exit.now answer.new }
 {
     let mut numbers = [0; 3];
     let part = enquiry::resolve(note, sheet, label, &mut numbers);
@@ -91,7 +91,7 @@ pub extern "C" fn notice_resolve<'a>(
 // Whether two labels are equal, each given without its brackets: 1 where they are, and else 0.
 #[unsafe(no_mangle)]
 pub extern "C" fn notice_same_label(a: &[u8], b: &[u8]) -> u32
-    ensures { SameLabelPromise a.now b.now result a.now b.now }
+    ensures { SameLabelPromise a.now b.now result a.exit.now b.exit.now }
 {
     if alike::same_label(a, b) {
         return 1;

@@ -181,7 +181,7 @@ pub fn render<'a>(
     spans: &mut [u32],
     page: &mut [u8],
 ) -> Rendering
-    ensures { Promise release (texts note.now sheet.now) definitions.old spans.old page.old result (texts note.now sheet.now) definitions.new spans.new page.new }
+    ensures { Promise release (texts note.now sheet.now) definitions.old spans.old page.old result (texts note.exit.now sheet.exit.now) definitions.new spans.new page.new }
 {
     let mut list = [0u16; walk::LIST];
     let read = notice::read_listed(note, sheet, release, definitions, spans, &mut list);
