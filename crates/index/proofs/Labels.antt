@@ -1,9 +1,8 @@
 -- The labels of a table's rows by number, and equal labels by their compared forms.
 use Prim.Native.Nat.{ℕ, zero, suc, ◌+◌, ◌<◌}
 use native.Mathlib.Omega.{arith}
-use mathlib.Core.Path.{◌≡◌, refl, sym, ap, ◌∙◌}
+use mathlib.Core.Path.{◌≡◌, refl, ap, ◌∙◌}
 use mathlib.Core.List.{List, []}
-use mathlib.Core.Logic.{◌↔◌}
 use lib.ListN.{length, get_or}
 use Rattle.texts.specs.Texts.{Texts}
 use Rattle.matching.specs.Form.{Equal}

@@ -3,12 +3,10 @@ use Prim.Native.Nat.{ℕ, zero, suc, ◌+◌, ◌-◌, ◌≤◌, ◌<◌}
 use native.Mathlib.Omega.{arith}
 use mathlib.Core.Path.{◌≡◌, refl, sym, ap, ◌∙◌}
 use mathlib.Core.List.{List, []}
-use mathlib.Core.Bool.{true, false}
 use borrow.Author.Tests.{ltb-true, ltb-false}
 use lib.Dec.{ltb}
-use lib.ListN.{length, get_or}
+use lib.ListN.{get_or}
 use Rattle.scan.proofs.Test.{by}
-use Rattle.scan.specs.declared.Found.{Found}
 use Rattle.scan.specs.declared.Found.TheVariants.{At, Nothing}
 use Rattle.texts.specs.Texts.{Texts}
 use Rattle.matching.specs.Form.{Equal}
@@ -18,7 +16,7 @@ use Rattle.order.proofs.Laws.{rank_refl, rank_equal, rank_less, rank_keys}
 use Rattle.row.specs.First.{labels_of, FirstEqual, NoneEqual}
 use Rattle.row.specs.Reading.{listed_from, row_of}
 use Rattle.row.proofs.First.{first_equal, none_equal}
-use Rattle.index.specs.Index.{label_of, form_of, key_in, entry_at, row_at, Before, below, tied, Sorted, Stands, Covers, Holds, Window}
+use Rattle.index.specs.Index.{label_of, form_of, key_in, entry_at, row_at, Before, below, tied, Sorted, Stands, Holds, Window}
 use Rattle.index.proofs.Labels.{labels_length, label_of_lem, to_form, from_form}
 
 -- ---- by which of two numbers is less

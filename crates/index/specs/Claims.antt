@@ -7,7 +7,7 @@ use Rattle.matching.specs.Form.{Equal}
 use Rattle.matching.specs.Reading.{compared}
 use Rattle.order.specs.Order.{equal, rank}
 use Rattle.row.specs.Reading.{row_of}
-use Rattle.index.specs.Index.{label_of, form_of, key_in, entry_at, row_at, Holds, Window}
+use Rattle.index.specs.Index.{label_of, form_of, key_in, entry_at, row_at, Window}
 
 pub record IndexClaims (T : Texts) (t : List ℕ) (count : ℕ) (index : List ℕ) : Type 0 where
   -- where a label's form belongs, its first row stands, or the label has none

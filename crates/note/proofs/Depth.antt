@@ -18,7 +18,6 @@ use Rattle.texts.specs.Texts.{Texts}
 use Rattle.block.specs.Block.{Placed}
 use Rattle.row.specs.Row.{Listed}
 use Rattle.row.specs.First.{labels_of}
-use Rattle.definition.specs.Reading.{paragraphs}
 use Rattle.joined.proofs.Joined.{joined_one}
 use Rattle.inline.specs.Tails.{Tail}
 use Rattle.inline.specs.Reading.{grammar}

@@ -1,5 +1,4 @@
 -- Each turn passes a definition that does not conflict.
-use Prim.Native.Nat.{◌-◌}
 use native.Mathlib.Omega.{arith}
 use Rattle.texts.specs.Texts.{texts}
 use Rattle.conflict.proofs.Turns.{none_before, next_none, found_here, none_left}

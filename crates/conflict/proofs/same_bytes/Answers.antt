@@ -1,5 +1,4 @@
 -- Each turn passes a byte that both have.
-use Prim.Native.Nat.{◌-◌}
 use native.Mathlib.Omega.{arith}
 use Rattle.conflict.proofs.Turns.{lengths_differ, all_same, other_byte, same_byte, none_yet}
 use Rattle.conflict.proofs.same_bytes.Goals as goal

@@ -1,6 +1,5 @@
 -- Each turn passes a definition that has another label.
 use borrow.Author.Rules.{rules}
-use Prim.Native.Nat.{◌-◌}
 use Rattle.enquiry.proofs.Search.{starts, stands, none_equal, label_ordered, label_inside, less, equal, other}
 use Rattle.enquiry.proofs.find.Goals as goal
 

@@ -1,6 +1,5 @@
 -- The least row that conflicts, of those at the places passed.
 use native.Mathlib.Omega.{arith}
-use Prim.Native.Nat.{◌-◌}
 use Rattle.repeats.proofs.Turns.{none_yet, least_first, none_first}
 use Rattle.repeats.proofs.by_index.Goals as goal
 

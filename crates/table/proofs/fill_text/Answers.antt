@@ -1,7 +1,6 @@
 -- Each turn stores a definition or remembers a paragraph.
 use borrow.Author.Rules.{rules}
 use native.Mathlib.Omega.{arith}
-use Prim.Native.Nat.{◌-◌}
 use Rattle.table.proofs.Filling.{starts, stands_there, line_there, same_size, same_list, all_counted, all_stored, all_remembered, small, number_fits, less, bracket_there, bracket_inside, line_before, line_small, further, paragraph_small, paragraph_less, past_paragraph}
 use Rattle.table.proofs.fill_text.Goals as goal
 

@@ -1,6 +1,5 @@
 -- Each turn passes a definition.
 use borrow.Author.Rules.{rules}
-use Prim.Native.Nat.{◌-◌}
 use Rattle.walk.proofs.Steps.{rest_less, rest_stop, rest_on}
 use Rattle.walk.proofs.block_rest.Goals as goal
 

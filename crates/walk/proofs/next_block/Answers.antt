@@ -1,6 +1,5 @@
 -- Each turn passes a blank line.
 use borrow.Author.Rules.{rules}
-use Prim.Native.Nat.{◌-◌}
 use Rattle.walk.proofs.Steps.{no_block, past_blank, block_here_lem, line_less}
 use Rattle.walk.proofs.next_block.Goals as goal
 

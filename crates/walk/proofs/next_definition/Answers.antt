@@ -1,7 +1,6 @@
 -- Each turn reads at one block and goes on to the next.
 use borrow.Author.Rules.{rules}
 use mathlib.Core.Path.{sym}
-use Prim.Native.Nat.{◌-◌}
 use lib.Seq.{length-take-le}
 use Rattle.walk.proofs.Steps.{definition_here, no_definition, next_block, block_inside, block_starts, block_ordered, block_less}
 use Rattle.walk.proofs.next_definition.Goals as goal

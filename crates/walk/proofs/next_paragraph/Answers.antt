@@ -1,7 +1,6 @@
 -- Each turn passes a block of which nothing is left.
 use borrow.Author.Rules.{rules}
 use mathlib.Core.Path.{sym}
-use Prim.Native.Nat.{◌-◌}
 use lib.Seq.{length-take-le}
 use Rattle.walk.proofs.Steps.{no_paragraph, all_taken, paragraph_here, block_inside, block_ends, block_less}
 use Rattle.walk.proofs.next_paragraph.Goals as goal
