@@ -22,10 +22,10 @@ OTHERWISE = {
     "definition-table": "table_of_definitions", "first-deep": "first_too_deep", "is-code": "kind_is_code",
     "is-image": "is_an_image", "is-label": "is_a_label", "label-end": "label_ends_at", "text-end": "text_ends_at",
     "is-entry": "entry_is", "image-opens": "an_image_opens", "row-at": "row_placed", "image-open": "opening_image",
-    "image-close": "closing_image", "definition-count": "definitions_number", "span-count": "spans_number",
+    "image-close": "closing_image", "openPiece": "opening_piece", "definition-count": "definitions_number", "span-count": "spans_number",
 }
 LEMMAS = """block-length character-length described-from ending-after first-conflict found-closing good-label is-absent is-at
-is-opening label-fits label-of line-ends line-length looked-up open-piece own-labels page-most reference-by row-by same-sort
+is-opening label-fits label-of line-ends line-length looked-up own-labels page-most reference-by row-by same-sort
 space-end space-or-lf span-end span-numbers start-by tail-by taken-column whole-rows with-definitions written-by""".split()
 OTHERWISE |= {word: word.replace("-", "_") + "_lem" for word in LEMMAS}
 # Lemmas that already read like a function beside them.

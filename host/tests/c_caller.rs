@@ -17,8 +17,8 @@ fn c_program_compiles_and_runs() {
     let program = file("host/c/main.c", "the C caller belongs there");
     let header = file("include/notice.h", "the header belongs there");
     let library = file(
-        "target/staticlib/libnotice_c.a",
-        "run `rt staticlib notice_c` first",
+        "crates/notice_c/out/libnotice_c.a",
+        "run `rt lib` in crates/notice_c first",
     );
     let made = Path::new(env!("CARGO_TARGET_TMPDIR")).join("c_caller");
 

@@ -4,8 +4,7 @@ use native.Mathlib.Omega.{arith}
 use mathlib.Core.Path.{◌≡◌, refl, ap, ◌∙◌}
 use mathlib.Core.List.{List, ◌++◌, flat_map}
 use mathlib.Core.Logic.{◌↔◌}
-use mathlib.Core.Bool.{Bool, true, false, not}
-use borrow.Author.Tests.{not-true, not-false}
+use mathlib.Core.Bool.{Bool, true, false}
 use lib.ListN.{length, length-append}
 use Rattle.escaping.specs.Escaping.{escaped}
 use Rattle.code.specs.Code.{code_open, code_close, CodeElement, code, content}
@@ -25,11 +24,11 @@ code_span_iff tags l w = (code_span_complete, (λ e. rw e at (code_span_sound ta
 
 -- ---- the code's two ways
 module _ (tags : Bool) (l : List ℕ) where
-  pub without_tags : not tags ≡ true → code_element tags l ≡ code_of l
-  without_tags e = rw (not-true tags e) refl
+  pub without_tags : tags ≡ false → code_element tags l ≡ code_of l
+  without_tags e = rw e refl
 
-  pub with_tags : not tags ≡ false → code_element tags l ≡ code_open ++ code_of l ++ code_close
-  with_tags e = rw (not-false tags e) refl
+  pub with_tags : tags ≡ true → code_element tags l ≡ code_open ++ code_of l ++ code_close
+  with_tags e = rw e refl
 
-  pub with_tags_length : not tags ≡ false → length (code_element tags l) ≡ 13 + length (code_of l)
+  pub with_tags_length : tags ≡ true → length (code_element tags l) ≡ 13 + length (code_of l)
   with_tags_length e = ap length (with_tags e) ∙ omega (arith, length-append (code_of l) code_close)

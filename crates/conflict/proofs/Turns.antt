@@ -90,11 +90,11 @@ module _ (T : Texts) (x y : Listed) {p q : Bool} (ep : p ≡ is_absent x.definit
   by_presence n = rw (← ep, ← eq, n) refl
 
   module _ (same : not (beq p q) ≡ false) {r : Bool} (er : r ≡ equals (destination_bytes T x) (destination_bytes T y)) where
-    by_destination : not r ≡ true → true ≡ differ T x y
+    by_destination : r ≡ false → true ≡ differ T x y
     unfolding differ
     by_destination n = rw (← ep, ← eq, same, ← er, n) refl
 
-    by_title : not r ≡ false → {u : Bool} → u ≡ equals (title_bytes T x) (title_bytes T y) → not u ≡ differ T x y
+    by_title : r ≡ true → {u : Bool} → u ≡ equals (title_bytes T x) (title_bytes T y) → not u ≡ differ T x y
     unfolding differ
     by_title n e = rw (← ep, ← eq, same, ← er, n, ← e) refl
 
@@ -113,10 +113,10 @@ module _ (T : Texts) (x y : Listed) {a b : Definition} (ea : a ≡ x.definition)
       compared part ev ew er = rw (← em, ← en, ← ea, ← eb) (er ∙ ap₂ equals ev ew)
 
       module _ {v w : List ℕ} (ev : v ≡ bytes_of (text_of T m) a.destination) (ew : w ≡ bytes_of (text_of T n) b.destination) {r : Bool} (er : r ≡ equals v w) where
-        pub other_destination : not r ≡ true → true ≡ differ T x y
+        pub other_destination : r ≡ false → true ≡ differ T x y
         other_destination = by_destination T x y (absent_is x ea ep) (absent_is y eb eq) same (compared (λ d. d.destination) ev ew er)
 
-        pub other_title : not r ≡ false → {v' w' : List ℕ} → v' ≡ bytes_of (text_of T m) a.title → w' ≡ bytes_of (text_of T n) b.title → {u : Bool} → u ≡ equals v' w'
+        pub other_title : r ≡ true → {v' w' : List ℕ} → v' ≡ bytes_of (text_of T m) a.title → w' ≡ bytes_of (text_of T n) b.title → {u : Bool} → u ≡ equals v' w'
             → not u ≡ differ T x y
         other_title t ev' ew' eu =
             by_title T x y (absent_is x ea ep) (absent_is y eb eq) same (compared (λ d. d.destination) ev ew er) t (compared (λ d. d.title) ev' ew' eu)

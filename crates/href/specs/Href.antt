@@ -10,7 +10,7 @@ use Rattle.escaping.specs.Clean.{among}
 abbrev pub letter_or_digit : ℕ → Bool
 letter_or_digit b = within 65 90 b || within 97 122 b || within 48 57 b
 
--- "ASCII letters, digits and `-◌.~!*'();:@=+$,/?%#` stay"
+-- "ASCII letters, digits and `-_.~!*'();:@=+$,/?%#` stay"
 unfoldable pub stays : ℕ → Bool
 stays b = letter_or_digit b || among (ascii "-_.~!*'();:@=+$,/?%#") b
 

@@ -1,9 +1,8 @@
 -- Plain text, as far as it goes: the strides in it, and the turns of the loop.
 use Prim.Native.Nat.{ℕ, ◌+◌, ◌<◌}
 use mathlib.Core.Path.{◌≡◌, refl}
-use mathlib.Core.Bool.{Bool, true, false, not}
+use mathlib.Core.Bool.{Bool, true, false}
 use mathlib.Core.List.{List}
-use borrow.Author.Tests.{not-true, not-false}
 use lib.ListN.{length, get_or}
 use Rattle.scan.proofs.Scan.{past_on, past_stop}
 use Rattle.scan.specs.Reading.{past, clear, past_strides}
@@ -22,8 +21,8 @@ plain_strides = past_through strided quiet stride_quiet
 
 -- ---- p is what a call answered
 module _ (s : List ℕ) (i : ℕ) {p : Bool} {r : ℕ} (inv : past quiet s i ≡ r) (h : i < length s) (e : p ≡ quiet (get_or s i 0)) where
-  pub plain_on : not p ≡ false → past quiet s (i + 1) ≡ r
-  plain_on k = past_on quiet s i inv h e (not-false p k)
+  pub plain_on : p ≡ true → past quiet s (i + 1) ≡ r
+  plain_on = past_on quiet s i inv h e
 
-  pub plain_stop : not p ≡ true → i ≡ r
-  plain_stop k = past_stop quiet s i inv h e (not-true p k)
+  pub plain_stop : p ≡ false → i ≡ r
+  plain_stop = past_stop quiet s i inv h e

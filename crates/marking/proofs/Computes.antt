@@ -23,12 +23,12 @@ with_tail_of r r' x m i j t same l =
       no_link_between = l.no_link_between;
       has_tail =
           record {
-            open_piece_lem = h.open_piece_lem;
+            open_piece = h.open_piece;
             close_piece = h.close_piece;
             open_at = h.open_at;
             close_at = h.close_at;
             of_sort = h.of_sort;
-            reads = same h.open_piece_lem h.close_piece h.open_at h.close_at h.reads;
+            reads = same h.open_piece h.close_piece h.open_at h.close_at h.reads;
           };
     }
 

@@ -40,7 +40,7 @@ module _ {T : Type 0} (r : Rules T) (m : Marking T) (c : Meets r m) where
   pub taken_as_opened : TakenAsOpened m
   taken_as_opened x i j t l =
       let d : Taken r x m i j t = (taken_are c x i j t).0 l in
-      record { paired = d.paired; opening = record { piece = d.has_tail.open_piece_lem; at = d.has_tail.open_at; is_kind = d.has_tail.of_sort } }
+      record { paired = d.paired; opening = record { piece = d.has_tail.open_piece; at = d.has_tail.open_at; is_kind = d.has_tail.of_sort } }
 
   pub no_link_holds_a_link : NoLinkHoldsALink m
   no_link_holds_a_link i j i' j' t t' l l' h h' = not_both (((c.links_are i j t).0 l).no_link_between i' j' h h') l'

@@ -165,9 +165,9 @@ module _ {T : Type 0} (g : Grammar T) (sd : Sound g) (m : Marking T) (b : ℕ) (
         no_link_between = λ xl i' j' hi hj. ext_taken_old g m next f link i' j' (omega arith) ∙ d.1.no_link xl i' j' (omega arith);
         has_tail =
             record {
-              open_piece_lem = d.1.open_piece_lem;
+              open_piece = d.1.open_piece;
               close_piece = next;
-              open_at = at_left m.pieces added i d.1.open_piece_lem d.1.open_at;
+              open_at = at_left m.pieces added i d.1.open_piece d.1.open_at;
               close_at = at_seam m.pieces next (extra g next f);
               of_sort = d.1.of_sort;
               reads = d.1.reads;
@@ -188,10 +188,10 @@ module _ {T : Type 0} (g : Grammar T) (sd : Sound g) (m : Marking T) (b : ℕ) (
               (λ t' l'.
               let hj : j' < length m.pieces = pair_inside (taken_pair c link i' j' t' l') in
               not_both (l.no_link_between xl i' j' (omega arith) hj) (ext_taken_old g m next f link i' j' (omega arith) ∙ l'));
-          open_piece_lem = l.has_tail.open_piece_lem;
+          open_piece = l.has_tail.open_piece;
           open_at = sym (at_back m.pieces added i h) ∙ l.has_tail.open_at;
           of_sort = l.has_tail.of_sort;
-          reads = ap (λ (y : Piece). g.tail_at l.has_tail.open_piece_lem.end y.start) e ∙ l.has_tail.reads;
+          reads = ap (λ (y : Piece). g.tail_at l.has_tail.open_piece.end y.start) e ∙ l.has_tail.reads;
         },
       )
 

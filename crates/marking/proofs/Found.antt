@@ -42,7 +42,7 @@ found_alone g m q no_pair =
 -- a pair has one sort and one tail
 one_found : {T : Type 0} (g : Grammar T) (m : Marking T) (q : Piece) (x y : Sort) (i : ℕ) (t t' : T) → TakenFound g m q x i t → TakenFound g m q y i t' → taken x i t ≡ taken y i t'
 one_found g m q x y i t t' l l' =
-    let e : l.open_piece_lem ≡ l'.open_piece_lem = some-injective l.open_piece_lem l'.open_piece_lem (sym l.open_at ∙ l'.open_at) in
+    let e : l.open_piece ≡ l'.open_piece = some-injective l.open_piece l'.open_piece (sym l.open_at ∙ l'.open_at) in
     let xy : x ≡ y = ap sort_of (sym l.of_sort ∙ ap (λ (o : Piece). o.kind) e ∙ l'.of_sort) in
     let tt' : t ≡ t' = some-injective t t' (sym l.reads ∙ ap (λ (o : Piece). g.tail_at o.end q.start) e ∙ l'.reads) in
     cc
@@ -90,17 +90,17 @@ unbarred image i last_link e xl = absurd (image≢link xl)
 -- a pair that starts before the last link has a link between; any other pair has none
 module _ {T : Type 0} (g : Grammar T) (m : Marking T) (b : ℕ) (last_link : ℕ) (ll : LastLink m last_link) (cl : role (g.kind_at b) ≡ closing) where
   -- the opening piece a, its sort, and the tail that it would have
-  abbrev open_piece : ℕ → Piece
-  open_piece a = get_or m.pieces a blank
+  abbrev opening_piece : ℕ → Piece
+  opening_piece a = get_or m.pieces a blank
 
   abbrev sort_at : ℕ → Sort
-  sort_at a = sort_of (open_piece a).kind
+  sort_at a = sort_of (opening_piece a).kind
 
   abbrev tail_of : ℕ → Option T
-  tail_of a = g.tail_at (open_piece a).end b
+  tail_of a = g.tail_at (opening_piece a).end b
 
   sort_is : (x : Sort) (a : ℕ) (t : T) → TakenFound g m (piece_at g b) x a t → sort_at a ≡ x
-  sort_is x a t l = ap (λ (y : Piece). sort_of y.kind) (at_get_d m.pieces a l.open_piece_lem l.open_at) ∙ ap sort_of l.of_sort
+  sort_is x a t l = ap (λ (y : Piece). sort_of y.kind) (at_get_d m.pieces a l.open_piece l.open_at) ∙ ap sort_of l.of_sort
 
   blocked : (x : Sort) (a : ℕ) (t : T) → x ≡ link → a < last_link → TakenFound g m (piece_at g b) x a t → ⊥
   blocked x a t xl h l =
@@ -114,14 +114,14 @@ module _ {T : Type 0} (g : Grammar T) (m : Marking T) (b : ℕ) (last_link : ℕ
       → FoundIs g m (piece_at g b) (with_tail (sort_at a) a o)
   by_tail st a s h none e =
       found_paired g m (piece_at g b) st a cl s
-      (λ x t l. not_both e (ap (λ (y : Piece). g.tail_at y.end b) (at_get_d m.pieces a l.open_piece_lem l.open_at) ∙ l.reads))
+      (λ x t l. not_both e (ap (λ (y : Piece). g.tail_at y.end b) (at_get_d m.pieces a l.open_piece l.open_at) ∙ l.reads))
   by_tail st a s h (some t) e =
       let w : Plays opening m.pieces a = ((s 0 a).0 refl).opened in
-      let o : open_piece a ≡ w.piece = at_get_d m.pieces a w.piece w.at in
+      let o : opening_piece a ≡ w.piece = at_get_d m.pieces a w.piece w.at in
       found_taken g m (piece_at g b) st a cl s (sort_at a) t
       (record {
         no_link = λ xl. free a (h xl);
-        open_piece_lem = w.piece;
+        open_piece = w.piece;
         open_at = w.at;
         of_sort = opening_opens w.piece.kind w.as_role ∙ ap (λ (y : Piece). opens (sort_of y.kind)) (sym o);
         reads = ap (λ (y : Piece). g.tail_at y.end b) (sym o) ∙ e;
@@ -146,7 +146,7 @@ module _ {T : Type 0} (g : Grammar T) (sd : Sound g) (m : Marking T) (b : ℕ) (
   further (paired i) fi = (sd.grows b inside, sd.within b inside)
   further (taken x i t) fi =
       let l : (pair_column (taken x i t) i ≡ true) × TakenFound g m (piece_at g b) x i t = (fi.taken_found x i t).0 (own_taken x i t) in
-      (omega (arith, sd.grows b inside), sd.tail_within l.1.open_piece_lem.end b t inside ((fi.pair_found i).0 l.0).0 l.1.reads)
+      (omega (arith, sd.grows b inside), sd.tail_within l.1.open_piece.end b t inside ((fi.pair_found i).0 l.0).0 l.1.reads)
 
   pub stack_further : (f : Match T) (st : List ℕ) → StackOf m.pieces st
       → StackOf (m.pieces ++ piece_at g b ∷ extra g (piece_at g b) f) (stack_by (length m.pieces) st (role (g.kind_at b)))

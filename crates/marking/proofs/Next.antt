@@ -57,10 +57,10 @@ own_taken {T} x a t =
 -- i and the next piece q are a link or an image with the tail t
 pub record TakenFound {T : Type 0} (g : Grammar T) (m : Marking T) (q : Piece) (x : Sort) (i : ℕ) (t : T) : Type 0 where
   pub no_link : x ≡ link → (i' j' : ℕ) → i < i' → m.links i' j' ≡ none
-  pub open_piece_lem : Piece
-  pub open_at : At m.pieces i open_piece_lem
-  pub of_sort : open_piece_lem.kind ≡ opens x
-  pub reads : g.tail_at open_piece_lem.end q.start ≡ some t
+  pub open_piece : Piece
+  pub open_at : At m.pieces i open_piece
+  pub of_sort : open_piece.kind ≡ opens x
+  pub reads : g.tail_at open_piece.end q.start ≡ some t
 
 pub record FoundIs {T : Type 0} (g : Grammar T) (m : Marking T) (q : Piece) (f : Match T) : Type 0 where
   pub pair_found : (i : ℕ) → (pair_column f i ≡ true) ↔ ((role q.kind ≡ closing) × LastBalanced m.pieces i)

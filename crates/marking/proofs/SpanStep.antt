@@ -138,8 +138,8 @@ module _ {T : Type 0} (g : Grammar T) (sd : Sound g) (m : Marking T) (b : ℕ) (
       by (yes e) =
           let l : taken_column x f s.from ≡ some t = sym (ext_taken_new g m next f x s.from) ∙ ap (λ (k : ℕ). chosen x grown s.from k) (sym e) ∙ s.taken in
           let d : TakenFound g m next x s.from t = ((fi.taken_found x s.from t).0 l).1 in
-          let eo : d.open_piece_lem ≡ o = some-injective d.open_piece_lem o (sym (at_left m.pieces added s.from d.open_piece_lem d.open_at) ∙ s.open_at) in
-          let eo' : get_or m.pieces s.from blank ≡ o = at_get_d m.pieces s.from d.open_piece_lem d.open_at ∙ eo in
+          let eo : d.open_piece ≡ o = some-injective d.open_piece o (sym (at_left m.pieces added s.from d.open_piece d.open_at) ∙ s.open_at) in
+          let eo' : get_or m.pieces s.from blank ≡ o = at_get_d m.pieces s.from d.open_piece d.open_at ∙ eo in
           let ep : next ≡ p = some-injective next p (sym (at_seam m.pieces next (extra g next f)) ∙ ap (get_elem? (m.pieces ++ added)) (sym e) ∙ s.close_at) in
           inr (subst (λ (y : Match T). In (pair_span x o p t) (fresh y)) (sym (taken_column_lem x f s.from t l))
           (0, ap (λ (y : Piece). some (pair_span x y next t)) eo' ∙ ap (λ (y : Piece). some (pair_span x o y t)) ep))
@@ -176,7 +176,7 @@ module _ {T : Type 0} (g : Grammar T) (sd : Sound g) (m : Marking T) (b : ℕ) (
             from = i;
             to = length m.pieces;
             taken = ext_taken_new g m next f y i ∙ l;
-            open_at = at_left m.pieces added i (get_or m.pieces i blank) (d.open_at ∙ ap {B = Option Piece} some (sym (at_get_d m.pieces i d.open_piece_lem d.open_at)));
+            open_at = at_left m.pieces added i (get_or m.pieces i blank) (d.open_at ∙ ap {B = Option Piece} some (sym (at_get_d m.pieces i d.open_piece d.open_at)));
             close_at = at_seam m.pieces next (extra g next f);
           })
 

@@ -21,12 +21,12 @@ pub tail_local : {T : Type 0} (r r' : Rules T) (x : Sort) (k : ℕ) (ps ps' : Li
     → take k ps ≡ take k ps' → i < k → j < k → HasTail r x ps i j t → HasTail r' x ps' i j t
 tail_local r r' x k ps ps' i j t same e hi hj c =
     record {
-      open_piece_lem = c.open_piece_lem;
+      open_piece = c.open_piece;
       close_piece = c.close_piece;
       open_at = sym (same_at k ps ps' i e hi) ∙ c.open_at;
       close_at = sym (same_at k ps ps' j e hj) ∙ c.close_at;
       of_sort = c.of_sort;
-      reads = same c.open_piece_lem.end c.close_piece.start c.reads;
+      reads = same c.open_piece.end c.close_piece.start c.reads;
     }
 
 -- ---- the links and images of the first pieces

@@ -111,12 +111,12 @@ pub record Paired (ps : List Piece) (i j : ℕ) : Type 0 where
 
 -- the pair of i and j, which an opening of the sort x opens, has the tail t
 pub record HasTail {T : Type 0} (r : Rules T) (x : Sort) (ps : List Piece) (i j : ℕ) (t : T) : Type 0 where
-  pub open_piece_lem : Piece
+  pub open_piece : Piece
   pub close_piece : Piece
-  pub open_at : At ps i open_piece_lem
+  pub open_at : At ps i open_piece
   pub close_at : At ps j close_piece
-  pub of_sort : open_piece_lem.kind ≡ opens x
-  pub reads : r.TailAt open_piece_lem.end close_piece.start t
+  pub of_sort : open_piece.kind ≡ opens x
+  pub reads : r.TailAt open_piece.end close_piece.start t
 
 -- a pair that `[` opens; "A link may hold an image, but no link at any depth, through images too"; "and it has a tail"
 pub record Linked {T : Type 0} (r : Rules T) (m : Marking T) (i j : ℕ) (t : T) : Type 0 where

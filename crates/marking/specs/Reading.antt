@@ -107,11 +107,11 @@ is_code closes = false
 is_code tail_kind = false
 is_code (opens x) = false
 
--- the span that ends with the piece q, by what q comes to; openPiece gives the piece that q is paired with
+-- the span that ends with the piece q, by what q comes to; opening_piece gives the piece that q is paired with
 abbrev pub new_spans : {T : Type 0} → (ℕ → Piece) → Piece → Match T → List (Span T)
-new_spans open_piece q alone = cond (is_code q.kind) (code_span q ∷ []) []
-new_spans open_piece q (paired i) = []
-new_spans open_piece q (taken x i t) = pair_span x (open_piece i) q t ∷ []
+new_spans opening_piece q alone = cond (is_code q.kind) (code_span q ∷ []) []
+new_spans opening_piece q (paired i) = []
+new_spans opening_piece q (taken x i t) = pair_span x (opening_piece i) q t ∷ []
 
 -- m with the piece q and what it comes to
 unfoldable pub extend : {T : Type 0} → Grammar T → Marking T → Piece → Match T → Marking T
@@ -125,8 +125,8 @@ extend g m q f =
 
 unfoldable pub found : {T : Type 0} → Grammar T → State T → Match T
 found g s =
-    let open_piece : ℕ → Piece = λ i. get_or s.marking.pieces i blank in
-    found_by (λ i. sort_of (open_piece i).kind) (λ i. g.tail_at (open_piece i).end s.place) s.last_link s.stack (role (g.kind_at s.place))
+    let opening_piece : ℕ → Piece = λ i. get_or s.marking.pieces i blank in
+    found_by (λ i. sort_of (opening_piece i).kind) (λ i. g.tail_at (opening_piece i).end s.place) s.last_link s.stack (role (g.kind_at s.place))
 
 unfoldable pub step : {T : Type 0} → Grammar T → State T → State T
 step g s =

@@ -29,9 +29,12 @@ use Rattle.note.proofs.Spans.{link_read}
 use Rattle.note.proofs.Placing.{from_span, at_get_d, part_bytes}
 
 no_reference : {s : List ℕ} {at : ℕ} {t : Tail} (x : Sort) → InlineFollows s at t → is_reference (tail_kind x t) ≡ false
-no_reference x (empty body rest op cl) = elim x [ link ↦ refl | image ↦ refl ]
-no_reference x (untitled body content more rest from op de cl) = elim x [ link ↦ refl | image ↦ refl ]
-no_reference x (titled body content more quoted content' after rest from op de ap' ti cl) = elim x [ link ↦ refl | image ↦ refl ]
+no_reference link (empty body rest op cl) = refl
+no_reference image (empty body rest op cl) = refl
+no_reference link (untitled body content more rest from op de cl) = refl
+no_reference image (untitled body content more rest from op de cl) = refl
+no_reference link (titled body content more quoted content' after rest from op de ap' ti cl) = refl
+no_reference image (titled body content more quoted content' after rest from op de ap' ti cl) = refl
 
 -- the label after `[`, as bytes of the paragraph
 label_bytes : (p : List ℕ) (c : ℕ) (label : List ℕ) → LabelFollows (drop (c + 1) p) label → take (length label) (drop (c + 2) p) ≡ label
@@ -51,13 +54,19 @@ module _ (T : Texts) (q : Placed) (w : Inside T.note q) (x : Sort) (o d : Piece)
 
   -- where the label stands that each reference is looked up by
   full_looked : (n k : ℕ) → looked_up (row_of (full n k)) ≡ range (q.at + d.start + 2) (q.at + (d.end + n) - 1)
-  full_looked n k = elim x [ link ↦ refl | image ↦ refl ]
+  full_looked n k =
+      elim x as (λ (y : Sort). looked_up (span_row T.note q.at q.bytes (definitions_of (joined T)) (pair_span y o d (full n k))) ≡ range (q.at + d.start + 2) (q.at + (d.end + n) - 1))
+      [ link ↦ refl | image ↦ refl ]
 
   collapsed_looked : (k : ℕ) → looked_up (row_of (collapsed k)) ≡ range (q.at + o.end) (q.at + d.start)
-  collapsed_looked k = elim x [ link ↦ refl | image ↦ refl ]
+  collapsed_looked k =
+      elim x as (λ (y : Sort). looked_up (span_row T.note q.at q.bytes (definitions_of (joined T)) (pair_span y o d (collapsed k))) ≡ range (q.at + o.end) (q.at + d.start))
+      [ link ↦ refl | image ↦ refl ]
 
   shortcut_looked : (k : ℕ) → looked_up (row_of (shortcut k)) ≡ range (q.at + o.end) (q.at + d.start)
-  shortcut_looked k = elim x [ link ↦ refl | image ↦ refl ]
+  shortcut_looked k =
+      elim x as (λ (y : Sort). looked_up (span_row T.note q.at q.bytes (definitions_of (joined T)) (pair_span y o d (shortcut k))) ≡ range (q.at + o.end) (q.at + d.start))
+      [ link ↦ refl | image ↦ refl ]
 
   -- the row of a tail whose target is definition k, found by a label that stands in the note
   refers : (t : Tail) (label : List ℕ) (k : ℕ) → target_of q.at (definitions_of (joined T)) (pair_span x o d t) ≡ defined (definitions_of (joined T)) k → bytes_of T.note (looked_up (row_of t)) ≡ label

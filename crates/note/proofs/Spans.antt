@@ -72,7 +72,7 @@ module _ (p : List ℕ) (ls : List (List ℕ)) (m : Marking Tail) (c : Meets (ru
       let h : HasTail (rules p ls) x m.pieces l.from l.to t = ((taken_are c x l.from l.to t).0 l.taken).has_tail in
       let ro = plays_as l.from o l.open_at pair.opened in
       let rd = plays_as l.to d l.close_at pair.closed in
-      let eo : h.open_piece_lem ≡ o = some-injective h.open_piece_lem o (sym h.open_at ∙ l.open_at) in
+      let eo : h.open_piece ≡ o = some-injective h.open_piece o (sym h.open_at ∙ l.open_at) in
       let ed : h.close_piece ≡ d = some-injective h.close_piece d (sym h.close_at ∙ l.close_at) in
       record {
         of_sort = ap (λ (y : Piece). y.kind) (sym eo) ∙ h.of_sort;

@@ -1,5 +1,5 @@
 -- Forms in their order, by computation.
-use Rattle.std.specs.Prelude.{ℕ, ◌≡◌, refl, []}
+use Rattle.std.specs.Prelude.{◌≡◌, refl, []}
 use Rattle.scan.specs.Ascii.{ascii}
 use Rattle.order.specs.Order.{less, equal, greater, order, mix, mixed, front, key}
 

@@ -114,7 +114,7 @@ module _ (T : Texts) (js : List Listed) (q : Placed) (m : Marking Tail) (c : Mar
   pub opener_kind : (x : Sort) (o d : Piece) (t : Tail) → TakenOf m x o d t → o.kind ≡ opens x
   opener_kind x o d t l =
       let h = ((taken_are c x l.from l.to t).0 l.taken).has_tail in
-      ap (λ (z : Piece). z.kind) (some-injective o h.open_piece_lem (sym l.open_at ∙ h.open_at)) ∙ h.of_sort
+      ap (λ (z : Piece). z.kind) (some-injective o h.open_piece (sym l.open_at ∙ h.open_at)) ∙ h.of_sort
 
   pub opening_role : (x : Sort) (o d : Piece) (t : Tail) → TakenOf m x o d t → role o.kind ≡ opening
   opening_role x o d t l = ap role (opener_kind x o d t l)

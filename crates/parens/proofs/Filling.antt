@@ -2,16 +2,16 @@
 use Prim.Native.Nat.{ℕ, zero, suc, ◌+◌, ◌-◌, ◌≤◌, ◌<◌}
 use native.Mathlib.Omega.{arith}
 use mathlib.Core.Path.{◌≡◌, refl, sym, ap, ◌∙◌}
-use mathlib.Core.List.{List, [], ◌∷◌}
-use mathlib.Core.Bool.{Bool, true, false, cond, not, ◌&&◌, ◌||◌}
-use borrow.Author.Tests.{ltb-true, ltb-false, eq-eqb}
+use mathlib.Core.List.{List}
+use mathlib.Core.Bool.{Bool, true, ◌&&◌}
+use borrow.Author.Tests.{ltb-true, ltb-false}
 use lib.ListN.{length, get_or, drop, set, length-set}
 use lib.Seq.{drop-length, drop-cons, get_or-set_same, get_or-set_other}
 use lib.Dec.{ltb, eqb}
 use Rattle.scan.proofs.Test.{by}
 use Rattle.scan.specs.Reading.{bare}
 use Rattle.target.specs.Target.{control}
-use Rattle.parens.specs.Unclosed.{odd_after, slashed, parenthesis, closers_before, closers, unclosed, unclosed_at, mark_of, Marks}
+use Rattle.parens.specs.Unclosed.{slashed, parenthesis, closers_before, closers, unclosed, unclosed_at, mark_of, Marks}
 use Rattle.parens.proofs.Slashes.{bare_with}
 
 pub record Filled (s : List ℕ) (i c : ℕ) (m : List ℕ) : Type 0 where

@@ -1,21 +1,18 @@
 -- Where fewer closing parentheses follow than are open, the run leaves one open.
-use Prim.Native.Nat.{ℕ, zero, suc, ◌+◌, ◌-◌, ◌≤◌, ◌<◌}
+use Prim.Native.Nat.{ℕ, ◌+◌, ◌<◌}
 use native.Mathlib.Omega.{arith}
-use mathlib.Core.Path.{◌≡◌, refl, sym, ap, ◌∙◌}
+use mathlib.Core.Path.{◌≡◌, refl, ◌∙◌}
 use mathlib.Core.List.{List, [], ◌∷◌}
-use mathlib.Core.Bool.{Bool, true, false, cond, not, ◌&&◌, ◌||◌}
-use borrow.Author.Tests.{eq-eqb, ne_eqb, eqb-true}
-use lib.ListN.{length, get_or, drop}
-use lib.Dec.{eqb}
-use Rattle.scan.proofs.Test.{by, and_false}
+use mathlib.Core.Bool.{Bool, true, false, not, ◌&&◌}
+use borrow.Author.Tests.{ne_eqb}
+use lib.ListN.{get_or}
+use Rattle.scan.proofs.Test.{by}
 use Rattle.scan.specs.Byte.{punctuation, escapes}
 use Rattle.scan.specs.Reading.{bare, scan}
 use Rattle.scan.proofs.Scan.{scan_cons}
 use Rattle.target.specs.Target.{control}
-use Rattle.target.specs.Reading.{Running, depth_after, halts, raw_from, raw_run, judged}
+use Rattle.target.specs.Reading.{Running, depth_after, halts, raw_from}
 use Rattle.target.proofs.Turns.{halted, passed}
-use Rattle.target.specs.declared.Part.{Part}
-use Rattle.target.specs.declared.Part.TheVariants.{Span, Nothing}
 use Rattle.parens.specs.Unclosed.{odd_after, closers_before, closers}
 use Rattle.parens.proofs.Slashes.{bare_with, inked, inside_next}
 

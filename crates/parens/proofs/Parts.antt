@@ -6,7 +6,7 @@ use native.Mathlib.Omega.{arith}
 use mathlib.Core.Path.{◌≡◌, refl, sym, ap, ◌∙◌}
 use mathlib.Core.List.{List, [], ◌∷◌}
 use mathlib.Core.Bool.{Bool, true, false, true≢false, not, ◌&&◌, ◌||◌}
-use borrow.Author.Tests.{ne_eqb, eqb-true, not-false}
+use borrow.Author.Tests.{ne_eqb, not-false}
 use lib.ListN.{length, get_or, drop, take, set, length-drop, length-set}
 use lib.Seq.{take_all, get_or-drop, drop-drop, get_or-set_same, get_or-set_other}
 use lib.Dec.{eqb}
@@ -14,7 +14,7 @@ use Rattle.scan.proofs.Test.{by, neither}
 use Rattle.scan.specs.Byte.{blank}
 use Rattle.scan.proofs.Scan.{at_cons}
 use Rattle.target.specs.Reading.{unspaced, space_from, space_run}
-use Rattle.parens.specs.Unclosed.{odd_after, slashed, closers, unclosed, unclosed_at, mark_of, Marks, Prepared}
+use Rattle.parens.specs.Unclosed.{slashed, unclosed_at, mark_of, Marks, Prepared}
 
 -- ---- a place after a byte that is no backslash
 pub unslashed : (s : List ℕ) (i : ℕ) → (get_or s i 0 ≡ 92 → ⊥) → slashed s (i + 1) ≡ false

@@ -1,12 +1,12 @@
 -- The run's state, and a destination that is given up at an opening parenthesis that nothing closes.
-use Prim.Native.Nat.{ℕ, zero, suc, ◌+◌, ◌-◌, ◌≤◌, ◌<◌}
+use Prim.Native.Nat.{ℕ, suc, ◌+◌, ◌-◌, ◌≤◌, ◌<◌}
 use native.Mathlib.Nat.{add-zero}
 use native.Mathlib.Numerals.{add-one}
 use native.Mathlib.Omega.{arith}
 use mathlib.Core.Path.{◌≡◌, refl, sym, ap, ◌∙◌}
-use mathlib.Core.List.{List, [], ◌∷◌}
-use mathlib.Core.Bool.{Bool, true, false, cond, not, ◌&&◌, ◌||◌}
-use borrow.Author.Tests.{eq-eqb, ne_eqb, eqb-true}
+use mathlib.Core.List.{List}
+use mathlib.Core.Bool.{Bool, true, false, cond, not, ◌&&◌}
+use borrow.Author.Tests.{ne_eqb, eqb-true}
 use lib.ListN.{length, get_or, drop}
 use lib.Seq.{get_or-drop}
 use lib.Dec.{eqb}
@@ -14,12 +14,12 @@ use Rattle.scan.proofs.Test.{by, and_left, and_right}
 use Rattle.scan.specs.Byte.{punctuation, escapes}
 use Rattle.scan.specs.Reading.{bare}
 use Rattle.scan.proofs.Scan.{at_cons, stops, goes, ends}
-use Rattle.target.specs.Reading.{Running, depth_after, halts, raw_from, raw_run, judged, destination_of}
+use Rattle.target.specs.Reading.{depth_after, halts, raw_from, raw_run, judged, destination_of}
 use Rattle.target.proofs.Turns.{halted, passed, deeper}
 use Rattle.target.specs.declared.Run.{Run}
 use Rattle.target.specs.declared.Part.{Part}
-use Rattle.target.specs.declared.Part.TheVariants.{Span, Nothing}
-use Rattle.parens.specs.Unclosed.{odd_after, slashed, closers, unclosed_at, mark_of, Marks, Prepared}
+use Rattle.target.specs.declared.Part.TheVariants.{Nothing}
+use Rattle.parens.specs.Unclosed.{odd_after, slashed, closers, unclosed_at, mark_of, Prepared}
 use Rattle.parens.proofs.Slashes.{bare_with, inked, inside_next}
 use Rattle.parens.proofs.LeftOpen.{state, left_open}
 

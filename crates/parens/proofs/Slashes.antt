@@ -1,17 +1,16 @@
 -- Backslashes before a place, counted back from it; and what a parenthesis is, escaped or not.
-use Prim.Native.Nat.{ℕ, zero, suc, ◌+◌, ◌-◌, ◌≤◌, ◌<◌}
+use Prim.Native.Nat.{ℕ, zero, suc, ◌-◌, ◌≤◌, ◌<◌}
 use native.Mathlib.Omega.{arith}
-use native.Mathlib.Numerals.{add-one}
-use mathlib.Core.Path.{◌≡◌, refl, sym, ap, ◌∙◌}
-use mathlib.Core.List.{List, [], ◌∷◌}
-use mathlib.Core.Bool.{Bool, true, false, cond, not, ◌&&◌, ◌||◌}
+use mathlib.Core.Path.{◌≡◌, refl, sym, ◌∙◌}
+use mathlib.Core.List.{List, ◌∷◌}
+use mathlib.Core.Bool.{Bool, true, false, cond, not, ◌&&◌}
 use borrow.Author.Tests.{eq-eqb, ne_eqb, eqb-true}
-use lib.ListN.{length, get_or, drop}
+use lib.ListN.{get_or}
 use lib.Dec.{eqb}
 use Rattle.scan.proofs.Test.{by, and_false}
 use Rattle.scan.specs.Byte.{punctuation, escapes}
 use Rattle.scan.specs.Reading.{bare}
-use Rattle.parens.specs.Unclosed.{odd_after, slashed, parenthesis}
+use Rattle.parens.specs.Unclosed.{odd_after, slashed}
 
 -- ---- counting back
 abbrev pub flip : Bool → Bool → Bool

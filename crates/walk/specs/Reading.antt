@@ -18,11 +18,11 @@ blocks_from s i = leap part_length block_here 0 (drop i s) i
 unfoldable pub paragraphs_from : List ℕ → ℕ → List Placed
 paragraphs_from s i = paragraphs_in s (blocks_from s i)
 
--- the definitions from place c .at on of the block that ends at c.end, and those of the blocks after it
+-- the definitions from place c.at on of the block that ends at c.end, and those of the blocks after it
 unfoldable pub definitions_after : List ℕ → Cursor → List Definition
 definitions_after s c = (definitions_from (take c.end s) c.at).definitions ++ definitions_in s (blocks_from s c.end)
 
--- what the definitions from place c .at on leave of that block, and the paragraphs of the blocks after it
+-- what the definitions from place c.at on leave of that block, and the paragraphs of the blocks after it
 unfoldable pub paragraphs_after : List ℕ → Cursor → List Placed
 paragraphs_after s c = paragraph_from (take c.end s) (definitions_from (take c.end s) c.at).after ++ paragraphs_from s c.end
 

@@ -8,13 +8,13 @@ use crate::run::{Folder, Ran, TOOL};
 const WRAPPER: &str = concat!(env!("CARGO_MANIFEST_DIR"), "/../notice");
 const NOTE: &[u8] = b"Take `4 mg`.\n";
 const PAGE: &str = "<p>Take <code>4 mg</code>.</p>\n";
-const LIBRARY: &str = "repository/target/staticlib/libnotice_c.a";
+const LIBRARY: &str = "repository/crates/notice_c/out/libnotice_c.a";
 const BUILT: &str = "repository/host/target/release/notice";
 
 /// A repository whose `rt` and `cargo` note each call in the file `calls`.
 fn repository() -> Folder {
     let folder = Folder::new();
-    folder.write("repository/crates/notice/src/lib.rt", b"");
+    folder.write("repository/crates/notice_c/src/lib.rt", b"");
     folder.write("repository/crates.txt", b"");
     folder.write("repository/host/src/lib.rs", b"");
     folder.write("repository/host/build.rs", b"");
@@ -22,11 +22,7 @@ fn repository() -> Folder {
     folder.write("ward/note.md", NOTE);
     let wrapper = folder.path().join("repository/notice");
     system(Command::new("cp").arg(WRAPPER).arg(wrapper));
-    program(
-        &folder,
-        "rt",
-        "mkdir -p target/staticlib && echo x >target/staticlib/libnotice_c.a",
-    );
+    program(&folder, "rt", "mkdir -p out && echo x >out/libnotice_c.a");
     program(
         &folder,
         "cargo",
@@ -85,7 +81,7 @@ fn calls(folder: &Folder) -> Vec<String> {
     calls.lines().map(str::to_string).collect()
 }
 
-const RT: &str = "rt staticlib notice_c";
+const RT: &str = "rt lib";
 const CARGO: &str = "cargo build --release --offline --bin notice \
                      --manifest-path host/Cargo.toml --target-dir host/target";
 

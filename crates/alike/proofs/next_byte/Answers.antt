@@ -15,10 +15,10 @@ returns-then-gap_before c = step_gap _ _ _ _ c.if-w-ne0.false c.past_blanks-p.en
 
 pub opened-requires : goal.opened-requires
 opened-requires c = record {
-        t_value = search rules;
-        p_in_bounds = c.if-s-p.false;
-        p_value = ink_at _ _ _ c.past_blanks-p.ensures c.if-s-p.false;
-    }
+  t_value = search rules;
+  p_in_bounds = c.if-s-p.false;
+  p_value = ink_at _ _ _ c.past_blanks-p.ensures c.if-s-p.false;
+}
 
 pub returns : goal.returns
 returns c = step_open _ _ _ _ c.if-w-ne0.false c.past_blanks-p.ensures c.if-s-p.false c.gap_before.ensures c.if-gap_before.false c.opened.ensures

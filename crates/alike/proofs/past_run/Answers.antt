@@ -1,7 +1,6 @@
 -- The place past the blanks is the same from every place passed.
 use borrow.Author.Rules.{rules}
 use borrow.Author.Tests.{not-true, not-false}
-use Prim.Native.Nat.{◌-◌}
 use Rattle.scan.proofs.Scan.{past_on, past_stop, past_end}
 use Rattle.alike.proofs.Blanks.{blank_strides}
 use Rattle.alike.proofs.past_run.Goals as goal

@@ -1,6 +1,5 @@
 -- Each turn passes one and the same byte.
 use borrow.Author.Rules.{rules}
-use Prim.Native.Nat.{◌-◌}
 use native.Mathlib.Omega.{arith}
 use mathlib.Core.Path.{sym, ◌∙◌}
 use Rattle.alike.proofs.Quick.{each_none, each_more, each_left, each_right, same_left}

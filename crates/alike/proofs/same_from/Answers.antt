@@ -38,17 +38,17 @@ returns-then-a-p c =
 
 pub opened-x-requires : goal.opened-x-requires
 opened-x-requires c = record {
-        t_value = search rules;
-        p_in_bounds = c.if-a-p.false;
-        p_value = ink_at _ _ _ c.past_blanks-p.ensures c.if-a-p.false;
-    }
+  t_value = search rules;
+  p_in_bounds = c.if-a-p.false;
+  p_value = ink_at _ _ _ c.past_blanks-p.ensures c.if-a-p.false;
+}
 
 pub opened-y-requires : goal.opened-y-requires
 opened-y-requires c =
     let h = level_inside _ _ _ _ _ _ c.level_at.ensures (not-false _ c.if-not-level_at.false-raw) c.if-a-p.false in record {
-        t_value = search rules;
-        p_in_bounds = h;
-        p_value = ink_at _ _ _ c.past_blanks-q.ensures h;
+      t_value = search rules;
+      p_in_bounds = h;
+      p_value = ink_at _ _ _ c.past_blanks-q.ensures h;
     }
 
 pub returns-then-x-y : goal.returns-then-x-y

@@ -2,7 +2,6 @@
 use borrow.Author.Rules.{rules}
 use native.Mathlib.Omega.{arith}
 use mathlib.Core.Path.{sym, ◌∙◌}
-use Prim.Native.Nat.{◌-◌}
 use Rattle.alike.proofs.Left.{past_from}
 use Rattle.alike.proofs.Turn.{differ, both_over, meets, shared_on}
 use Rattle.alike.proofs.Quick.{unlike_first, count_start}

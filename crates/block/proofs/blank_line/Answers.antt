@@ -7,4 +7,4 @@ use Rattle.block.proofs.blank_line.Goals as goal
 pub returns : goal.returns
 returns c =
     let s = c.args.s.now in
-    c.line_ends_lem.ensures ∙ ap (line_ends s) c.past_padding.ensures ∙ blank_moved s c.args.at
+    c.line_ends.ensures ∙ ap (line_ends s) c.past_padding.ensures ∙ blank_moved s c.args.at

@@ -1,6 +1,5 @@
 -- Each turn is a line of the block.
 use borrow.Author.Rules.{rules}
-use Prim.Native.Nat.{◌-◌}
 use Rattle.block.proofs.Parts.{line_less, block_starts, block_on, block_stop, block_done}
 use Rattle.block.proofs.block_end.Goals as goal
 

@@ -1,6 +1,5 @@
 -- A stride is within the line, and each turn is a byte of it.
 use borrow.Author.Rules.{rules}
-use Prim.Native.Nat.{◌-◌}
 use Rattle.block.proofs.Turns.{line_on, line_stop, line_done}
 use Rattle.block.proofs.Parts.{line_strides}
 use Rattle.block.proofs.line_end.Goals as goal

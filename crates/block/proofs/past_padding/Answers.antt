@@ -1,7 +1,6 @@
 -- Each turn is a byte of the run.
 use borrow.Author.Tests.{not-true, not-false}
 use borrow.Author.Rules.{rules}
-use Prim.Native.Nat.{◌-◌}
 use Rattle.scan.proofs.Scan.{past_on, past_stop, past_end}
 use Rattle.block.proofs.past_padding.Goals as goal
 

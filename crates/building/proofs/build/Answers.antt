@@ -25,9 +25,9 @@ pub is_filled-requires : goal.is_filled-requires
 is_filled-requires c =
     let a = c.args in
     let few = neither (ltb rows a.count) (ltb (length a.index.now - base) a.count) c.if-count-index.false in record {
-        fit = c.requires;
-        count_le_rows = ltb-false rows a.count few.0;
-        count_in_bounds = omega (arith, ltb-false (length a.index.now - base) a.count few.1, c.if-index-lt-BASE.false);
+      fit = c.requires;
+      count_le_rows = ltb-false rows a.count few.0;
+      count_in_bounds = omega (arith, ltb-false (length a.index.now - base) a.count few.1, c.if-index-lt-BASE.false);
     }
 
 pub returns-then-is_filled : goal.returns-then-is_filled
@@ -38,4 +38,4 @@ returns-then-is_filled c =
 pub returns : goal.returns
 returns c =
     let a = c.args in
-    given_up (texts a.note.now a.sheet.now) a.table.now a.count c.is_filled.new.1.1.1.1.0
+    given_up (texts a.note.now a.sheet.now) a.table.now a.count c.is_filled.new.index

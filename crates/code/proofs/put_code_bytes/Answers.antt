@@ -2,9 +2,10 @@
 use Prim.Native.Nat.{ℕ, ◌+◌, ◌-◌, ◌≤◌, ◌<◌}
 use native.Mathlib.Omega.{arith}
 use mathlib.Core.Path.{◌≡◌}
+use Rattle.std.proofs.Common.{◌≢◌}
+use Rattle.scan.specs.Reading.{past}
 use mathlib.Core.List.{List, ◌++◌}
 use lib.ListN.{length, take, drop}
-use borrow.Author.Rules.{rules}
 use Rattle.escaping.specs.Escaping.{escaped}
 use Rattle.code.specs.Code.{feed_as_space}
 use Rattle.escaping.specs.Reading.{as_is}
@@ -15,7 +16,7 @@ use Rattle.escaping.proofs.AsIs.{run_within}
 use Rattle.code.proofs.Runs.{code_part}
 use Rattle.code.proofs.put_code_bytes.Invariants.{code}
 use Rattle.code.proofs.put_code_bytes.Goals as goal
-use Rattle.code.proofs.put_code_bytes.Goals.{After-as_is_end-to, After-put-k, After-spaced_byte, Else-to-s}
+use Rattle.code.proofs.put_code_bytes.Goals.{After-as_is_end-to, After-put-k, After-spaced_byte}
 
 pub loop-n-init : goal.loop-n-init
 loop-n-init c = (leads, omega arith)
@@ -40,46 +41,42 @@ put-k-requires c =
     room (take (to.result - c.loop-n.i) (drop c.loop-n.i c.args.s.now)) _ c.loop-n.invariant.0 (code_part _ _ to.ensures) c.requires
 
 -- the run is written
-module _ (c : After-put-k) where
-  abbrev start : tie.Start invariant_loop decreases_loop
-  start = c.before.before.before.before.before.before.before.before.before
-
-  abbrev text : List ℕ
-  text = start.args.s.now
-
-  abbrev to : ℕ
-  to = c.before.before.before.before.before.as_is_end.result
-
-  ran : Leads start.args.page.now start.args.n (code text) c.before.before.put.new.0 c.before.before.put.result (code (drop to text))
-  ran = onward c.before.before.before.before.before.before.loop.invariant.0 (code_part _ _ c.before.before.before.before.before.as_is_end.ensures) c.before.before.put.ensures
-
+ran : (c : After-put-k) → Leads c.args.page.now c.args.n (code c.args.s.now) c.put-k.new.page c.put-k.result (code (drop c.as_is_end-to.result c.args.s.now))
+ran c = onward c.loop-n.invariant.0 (code_part _ _ c.as_is_end-to.ensures) c.put-k.ensures
 
 pub shape_of-page-then-to-s : goal.shape_of-page-then-to-s
 shape_of-page-then-to-s c = (ran (goal.at.shape_of-page-then-to-s c).After-put-k).same
 
 pub returns-then-to-s : goal.returns-then-to-s
-returns-then-to-s c = done (ran (goal.at.returns-then-to-s c).After-put-k) (none_mapped escaped feed_as_space (text (goal.at.returns-then-to-s c).After-put-k) (to (goal.at.returns-then-to-s c).After-put-k) (search rules))
+returns-then-to-s c =
+    done (ran (goal.at.returns-then-to-s c).After-put-k) (none_mapped escaped feed_as_space c.args.s.now c.as_is_end-to.result (omega arith))
 
--- it ends before the text does
-unfinished : (c : Else-to-s) → to c < length (text c)
-unfinished c = omega (arith, (ends c).1, c.if-to-s.false)
+-- a run that does not end at the end ends before it
+short : (s : List ℕ) (i : ℕ) {r : ℕ} → r ≡ past (as_is 10) s i → i ≤ length s → r ≢ length s → r < length s
+short s i e h ne = omega (arith, (run_within (as_is 10) s i e h).1)
 
 pub bounds-s-to : goal.bounds-s-to
-bounds-s-to c = unfinished (goal.at.bounds-s-to c).Else-to-s
+bounds-s-to c = short _ _ c.as_is_end-to.ensures c.loop-n.invariant.1 c.if-to-s.false
 
 -- the byte after it
 next : (c : After-spaced_byte)
-    → code (drop (to c) (text c)) ≡ escaped c.spaced_byte.result ++ code (drop (to c + 1) (text c))
-next c = next_mapped escaped feed_as_space (text c) (to c) c.spaced_byte.ensures (unfinished c)
+    → code (drop c.as_is_end-to.result c.args.s.now) ≡ escaped c.spaced_byte.result ++ code (drop (c.as_is_end-to.result + 1) c.args.s.now)
+next c =
+    next_mapped escaped feed_as_space c.args.s.now c.as_is_end-to.result c.spaced_byte.ensures (short _ _ c.as_is_end-to.ensures c.loop-n.invariant.1 c.if-to-s.false)
 
 pub put_escaped-k-requires : goal.put_escaped-k-requires
-put_escaped-k-requires c = room (escaped c.spaced_byte.result) _ (ran (goal.at.put_escaped-k-requires c).After-put-k) (next (goal.at.put_escaped-k-requires c).After-spaced_byte) (start (goal.at.put_escaped-k-requires c).After-put-k).requires
+put_escaped-k-requires c =
+    room (escaped c.spaced_byte.result) _ (ran (goal.at.put_escaped-k-requires c).After-put-k) (next (goal.at.put_escaped-k-requires c).After-spaced_byte) c.requires
 
 pub overflow_add-i : goal.overflow_add-i
-overflow_add-i c = omega (arith, unfinished (goal.at.overflow_add-i c).Else-to-s)
+overflow_add-i c = omega (arith, short _ _ c.as_is_end-to.ensures c.loop-n.invariant.1 c.if-to-s.false)
 
 pub loop-n-smaller : goal.loop-n-smaller
-loop-n-smaller c = omega (arith, unfinished (goal.at.loop-n-smaller c).Else-to-s, (ends (goal.at.loop-n-smaller c).After-as_is_end-to).0)
+loop-n-smaller c =
+    omega (arith, short _ _ c.as_is_end-to.ensures c.loop-n.invariant.1 c.if-to-s.false, (ends (goal.at.loop-n-smaller c).After-as_is_end-to).0)
 
 pub loop-n-preserved : goal.loop-n-preserved
-loop-n-preserved c = (onward (ran (goal.at.loop-n-preserved c).After-put-k) (next (goal.at.loop-n-preserved c).After-spaced_byte) c.put_escaped-k.ensures, omega (arith, unfinished (goal.at.loop-n-preserved c).Else-to-s))
+loop-n-preserved c = (
+  onward (ran (goal.at.loop-n-preserved c).After-put-k) (next (goal.at.loop-n-preserved c).After-spaced_byte) c.put_escaped-k.ensures,
+  omega (arith, short _ _ c.as_is_end-to.ensures c.loop-n.invariant.1 c.if-to-s.false),
+)

@@ -14,7 +14,7 @@ use Rattle.cursor.proofs.Rows.{row_read}
 use Rattle.cursor.proofs.Starts.{rows_counted, row_there}
 use Rattle.cursor.proofs.Marks.{none_marked, all_marked, inside, few, one_marked}
 use Rattle.cursor.proofs.mark_starts.Goals as goal
-use Rattle.cursor.proofs.mark_starts.Goals.{After-entry_of, After-span_at-row}
+use Rattle.cursor.proofs.mark_starts.Goals.{After-span_at-row}
 
 pub loop-k-init : goal.loop-k-init
 loop-k-init c =
@@ -46,15 +46,14 @@ pub offset_bounds-starts-at : goal.offset_bounds-starts-at
 offset_bounds-starts-at c = search (start (goal.at.offset_bounds-starts-at c).After-span_at-row, rules)
 
 pub bounds-starts-at : goal.bounds-starts-at
-bounds-starts-at c = start (goal.at.bounds-starts-at c).After-entry_of
+bounds-starts-at c = start (goal.at.bounds-starts-at c).After-span_at-row
 
 pub loop-k-preserved : goal.loop-k-preserved
 loop-k-preserved c =
-    let l = c.loop-k in
-    (
+    let l = c.loop-k in (
       omega (arith, below (goal.at.loop-k-preserved c).After-span_at-row),
       one_marked c.requires.startable l.invariant.1 c.loop-k-test.true (there (goal.at.loop-k-preserved c).After-span_at-row) _
-          (c.described_from_lem.ensures (line_in c.args.spans.now (l.k - 1)) ∙ ap (λ (x : List ℕ). described_from x l.from) (row (goal.at.loop-k-preserved c).After-span_at-row)) _ (ap row_start (row (goal.at.loop-k-preserved c).After-span_at-row)) c.entry_of.ensures,
+          (c.described_from-from.ensures (line_in c.args.spans.now (l.k - 1)) ∙ ap (λ (x : List ℕ). described_from x l.from) (row (goal.at.loop-k-preserved c).After-span_at-row)) _ (ap row_start (row (goal.at.loop-k-preserved c).After-span_at-row)) c.entry_of.ensures,
     )
 
 pub returns : goal.returns

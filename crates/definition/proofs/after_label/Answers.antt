@@ -94,8 +94,8 @@ enum_told-in-Nothing c = search ways
 
 pub returns-in-Span-ending_after : goal.returns-in-Span-ending_after
 returns-in-Span-ending_after c =
-    whole c.args.s.now _ _ c.peek.ensures c.if-peek-ne58.false c.space_end_lem.ensures c.destination.ensures
-    c.in-Span.is c.ending_after_lem.ensures c.in-Span-ending_after.is c.new.ensures
+    whole c.args.s.now _ _ c.peek.ensures c.if-peek-ne58.false c.space_end.ensures c.destination.ensures
+    c.in-Span.is c.ending_after.ensures c.in-Span-ending_after.is c.new.ensures
     c.new-in-Span-ending_after.ensures c.new-in-Span-ending_after-2.ensures c.new-d.ensures
 
 pub returns-in-Nothing-ending_after : goal.returns-in-Nothing-ending_after

@@ -14,15 +14,15 @@ returns-then-h-g c = λ e. absurd (true≢false (sym e))
 pub label_at-own-requires : goal.label_at-own-requires
 label_at-own-requires c =
     let i = c.requires.entry.row in record {
-        at_in_bounds = (label_there c.requires.fit c.row_in-k.result (omega (arith, c.row_in-k.ensures))).0;
-        within = (label_there c.requires.fit c.row_in-k.result (omega (arith, c.row_in-k.ensures))).1;
+      at_in_bounds = (label_there c.requires.fit c.row_in-k.result (omega (arith, c.row_in-k.ensures))).0;
+      within = (label_there c.requires.fit c.row_in-k.result (omega (arith, c.row_in-k.ensures))).1;
     }
 
 pub label_at-other-requires : goal.label_at-other-requires
 label_at-other-requires c =
     let i = c.requires.entry_2.row in record {
-        at_in_bounds = (label_there c.requires.fit c.row_in-l.result (omega (arith, c.row_in-l.ensures))).0;
-        within = (label_there c.requires.fit c.row_in-l.result (omega (arith, c.row_in-l.ensures))).1;
+      at_in_bounds = (label_there c.requires.fit c.row_in-l.result (omega (arith, c.row_in-l.ensures))).0;
+      within = (label_there c.requires.fit c.row_in-l.result (omega (arith, c.row_in-l.ensures))).1;
     }
 
 pub returns-then-r-eq0 : goal.returns-then-r-eq0

@@ -1,7 +1,6 @@
 -- The entries of the rows passed are stored.
 use borrow.Author.Rules.{rules}
 use native.Mathlib.Omega.{arith}
-use Prim.Native.Nat.{◌-◌}
 use Rattle.texts.specs.Texts.{texts}
 use Rattle.matching.specs.Reading.{compared}
 use Rattle.indexing.proofs.Turn.{key_small, label_there, entry_more}
@@ -12,9 +11,9 @@ loop-k-init c = (omega arith, (c.requires.entries_len, λ k h. absurd (omega ari
 
 pub label_at-label-requires : goal.label_at-label-requires
 label_at-label-requires c = record {
-        at_in_bounds = (label_there c.requires.fit c.loop-k.k c.loop-k-test.true).0;
-        within = (label_there c.requires.fit c.loop-k.k c.loop-k-test.true).1;
-    }
+  at_in_bounds = (label_there c.requires.fit c.loop-k.k c.loop-k-test.true).0;
+  within = (label_there c.requires.fit c.loop-k.k c.loop-k-test.true).1;
+}
 
 pub overflow_mul-entries : goal.overflow_mul-entries
 overflow_mul-entries c = let z = key_small (compared c.label_at-label.result.now) in omega (arith, c.key_of.ensures)

@@ -1,10 +1,8 @@
 -- The places passed follow one another.
 use native.Mathlib.Omega.{arith}
-use Prim.Native.Nat.{◌-◌}
 use mathlib.Core.Path.{sym}
 use mathlib.Core.Bool.{true≢false}
 use borrow.Author.Count.{below_more}
-use borrow.Author.Tests.{not-false}
 use Rattle.indexing.specs.Building.{Follows}
 use Rattle.indexing.proofs.Turn.{sorted_all}
 use Rattle.indexing.proofs.is_sorted.Goals as goal
@@ -14,11 +12,11 @@ loop-p-init c = (omega arith, λ k h. absurd (omega arith))
 
 pub follows-requires : goal.follows-requires
 follows-requires c = record {
-        fit = c.requires.fit;
-        count_le_rows = c.requires.count_le_rows;
-        entries = c.requires.entries;
-        p_in_bounds = omega arith;
-    }
+  fit = c.requires.fit;
+  count_le_rows = c.requires.count_le_rows;
+  entries = c.requires.entries;
+  p_in_bounds = omega arith;
+}
 
 pub returns-then-not-follows : goal.returns-then-not-follows
 returns-then-not-follows c = λ e. absurd (true≢false (sym e))
@@ -30,7 +28,7 @@ pub loop-p-smaller : goal.loop-p-smaller
 loop-p-smaller c = omega arith
 
 pub loop-p-preserved : goal.loop-p-preserved
-loop-p-preserved c = (omega arith, below_more (Follows _ _ _ _) _ c.loop-p.invariant.1 (c.follows.ensures (not-false _ c.if-not-follows.false-raw)))
+loop-p-preserved c = (omega arith, below_more (Follows _ _ _ _) _ c.loop-p.invariant.1 (c.follows.ensures c.if-not-follows.false))
 
 pub returns : goal.returns
 returns c = λ e. sorted_all _ (omega arith) (λ p h. c.loop-p.invariant.1 p (omega arith))

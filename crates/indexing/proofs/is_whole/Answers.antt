@@ -1,10 +1,8 @@
 -- The rows passed stand where their places say.
 use native.Mathlib.Omega.{arith}
-use Prim.Native.Nat.{◌-◌}
 use mathlib.Core.Path.{sym}
 use mathlib.Core.Bool.{true≢false}
 use borrow.Author.Count.{below_more}
-use borrow.Author.Tests.{not-false}
 use Rattle.index.specs.Index.{Stands}
 use Rattle.indexing.proofs.is_whole.Goals as goal
 
@@ -13,9 +11,9 @@ loop-k-init c = (omega arith, λ k h. absurd (omega arith))
 
 pub stands-requires : goal.stands-requires
 stands-requires c = record {
-        count_in_bounds = omega arith;
-        k_lt_rows = omega arith;
-    }
+  count_in_bounds = omega arith;
+  k_lt_rows = omega arith;
+}
 
 pub returns-then-not-stands : goal.returns-then-not-stands
 returns-then-not-stands c = λ e. absurd (true≢false (sym e))
@@ -27,7 +25,7 @@ pub loop-k-smaller : goal.loop-k-smaller
 loop-k-smaller c = omega arith
 
 pub loop-k-preserved : goal.loop-k-preserved
-loop-k-preserved c = (omega arith, below_more (Stands _ _) _ c.loop-k.invariant.1 (c.stands.ensures (not-false _ c.if-not-stands.false-raw)))
+loop-k-preserved c = (omega arith, below_more (Stands _ _) _ c.loop-k.invariant.1 (c.stands.ensures c.if-not-stands.false))
 
 pub returns : goal.returns
 returns c = λ e l h. c.loop-k.invariant.1 l (omega arith)

@@ -1,6 +1,5 @@
 -- Each turn counts one byte.
 use borrow.Author.Rules.{rules}
-use Prim.Native.Nat.{◌-◌}
 use Rattle.label.proofs.Fits.{count_on, count_done}
 use Rattle.label.proofs.character_count.Goals as goal
 

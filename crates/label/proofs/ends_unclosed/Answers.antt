@@ -1,6 +1,5 @@
 -- The loop reads `l` as `closing` reads it with a `]` after it.
 use borrow.Author.Rules.{rules}
-use Prim.Native.Nat.{◌-◌}
 use Rattle.scan.specs.Reading.{closing}
 use Rattle.label.proofs.Unclosed.{refused, went, ended}
 use Rattle.label.proofs.ends_unclosed.Goals as goal

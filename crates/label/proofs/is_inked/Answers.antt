@@ -1,6 +1,5 @@
 -- Each turn passes a blank, or ends.
 use borrow.Author.Rules.{rules}
-use Prim.Native.Nat.{◌-◌}
 use Rattle.label.proofs.Fits.{ink_here, ink_on, ink_none}
 use Rattle.label.proofs.is_inked.Goals as goal
 

@@ -27,11 +27,11 @@ slice_bounds-label_fits-end c =
 
 pub returns-then-label_fits : goal.returns-then-label_fits
 returns-then-label_fits c =
-    end_fits _ _ (sym c.closing_place.ensures ∙ c.in-At.is) c.label_fits_lem.ensures c.if-label_fits.true
+    end_fits _ _ (sym c.closing_place.ensures ∙ c.in-At.is) c.label_fits.ensures c.if-label_fits.true
 
 pub returns-else-label_fits : goal.returns-else-label_fits
 returns-else-label_fits c =
-    end_unfit _ _ (sym c.closing_place.ensures ∙ c.in-At.is) c.label_fits_lem.ensures c.if-label_fits.false
+    end_unfit _ _ (sym c.closing_place.ensures ∙ c.in-At.is) c.label_fits.ensures c.if-label_fits.false
 
 pub returns-in-Nothing : goal.returns-in-Nothing
 returns-in-Nothing c = end_missing _ _ (sym c.closing_place.ensures ∙ c.in-Nothing.is)

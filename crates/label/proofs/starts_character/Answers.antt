@@ -5,12 +5,12 @@ use Rattle.label.proofs.starts_character.Goals as goal
 
 pub returns-then-sequence_length-eq0 : goal.returns-then-sequence_length-eq0
 returns-then-sequence_length-eq0 c = record {
-        value = simp (← c.sequence_length.ensures, eq-eqb _ _ c.if-sequence_length-eq0.true);
-        small = omega arith;
-    }
+  value = simp (← c.sequence_length.ensures, eq-eqb _ _ c.if-sequence_length-eq0.true);
+  small = omega arith;
+}
 
 pub returns : goal.returns
 returns c = record {
-        value = simp (← c.sequence_length.ensures, ne_eqb _ _ c.if-sequence_length-eq0.false);
-        small = omega arith;
-    }
+  value = simp (← c.sequence_length.ensures, ne_eqb _ _ c.if-sequence_length-eq0.false);
+  small = omega arith;
+}

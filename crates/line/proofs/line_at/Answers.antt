@@ -1,5 +1,4 @@
 -- Each turn passes a line; the last is the one on which the place stands.
-use Prim.Native.Nat.{◌-◌}
 use native.Mathlib.Omega.{arith}
 use Rattle.line.proofs.Lines.{number_fits, onward, next_before}
 use Rattle.line.proofs.line_at.Goals as goal

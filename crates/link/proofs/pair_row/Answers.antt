@@ -47,10 +47,10 @@ pub returns-in-Parts : goal.returns-in-Parts
 returns-in-Parts c = let a = c.args in c.inline_row.ensures ∙ inline_kind _ _ _ _ (sort_by a.image) a.t.length (moved (a.closing + 1) c.in-Parts.destination) (moved (a.closing + 1) c.in-Parts.title) ∙ pair_row_lem a.start a.image a.opening a.closing a.definitions.now a.count a.t _ c.in-Parts.is c.requires.sized c.new-whole.ensures c.text_from.ensures c.new-text.ensures (inline_by a.start a.image a.opening a.closing a.definitions.now a.count a.t.length c.in-Parts.destination c.in-Parts.title c.part_in_note.ensures c.part_in_note-in-Parts.ensures)
 
 pub returns-in-Full : goal.returns-in-Full
-returns-in-Full c = let a = c.args in c.a_full_row.ensures ∙ full_kind _ _ _ _ (sort_by a.image) _ a.t.length ∙ pair_row_lem a.start a.image a.opening a.closing a.definitions.now a.count a.t _ c.in-Full.is c.requires.sized c.new-whole.ensures c.text_from.ensures c.new-text.ensures (defined_by a.start a.image a.opening a.closing a.definitions.now a.count (names_as a.count a.definitions.now c.in-Full.is c.requires.names).0 c.definition_at.ensures)
+returns-in-Full c = let a = c.args in c.full_row.ensures ∙ full_kind _ _ _ _ (sort_by a.image) _ a.t.length ∙ pair_row_lem a.start a.image a.opening a.closing a.definitions.now a.count a.t _ c.in-Full.is c.requires.sized c.new-whole.ensures c.text_from.ensures c.new-text.ensures (defined_by a.start a.image a.opening a.closing a.definitions.now a.count (names_as a.count a.definitions.now c.in-Full.is c.requires.names).0 c.definition_at.ensures)
 
 pub returns-in-Collapsed : goal.returns-in-Collapsed
-returns-in-Collapsed c = let a = c.args in c.a_collapsed_row.ensures ∙ collapsed_kind _ _ _ _ (sort_by a.image) _ ∙ pair_row_lem a.start a.image a.opening a.closing a.definitions.now a.count a.t _ c.in-Collapsed.is c.requires.sized c.new-whole.ensures c.text_from.ensures c.new-text.ensures (defined_by a.start a.image a.opening a.closing a.definitions.now a.count (names_as a.count a.definitions.now c.in-Collapsed.is c.requires.names).0 c.definition_at-in-Collapsed.ensures)
+returns-in-Collapsed c = let a = c.args in c.collapsed_row.ensures ∙ collapsed_kind _ _ _ _ (sort_by a.image) _ ∙ pair_row_lem a.start a.image a.opening a.closing a.definitions.now a.count a.t _ c.in-Collapsed.is c.requires.sized c.new-whole.ensures c.text_from.ensures c.new-text.ensures (defined_by a.start a.image a.opening a.closing a.definitions.now a.count (names_as a.count a.definitions.now c.in-Collapsed.is c.requires.names).0 c.definition_at-in-Collapsed.ensures)
 
 pub returns-in-Shortcut : goal.returns-in-Shortcut
-returns-in-Shortcut c = let a = c.args in c.a_shortcut_row.ensures ∙ shortcut_kind _ _ _ _ (sort_by a.image) _ ∙ pair_row_lem a.start a.image a.opening a.closing a.definitions.now a.count a.t _ c.in-Shortcut.is c.requires.sized c.new-whole.ensures c.text_from.ensures c.new-text.ensures (defined_by a.start a.image a.opening a.closing a.definitions.now a.count (names_as a.count a.definitions.now c.in-Shortcut.is c.requires.names).0 c.definition_at-in-Shortcut.ensures)
+returns-in-Shortcut c = let a = c.args in c.shortcut_row.ensures ∙ shortcut_kind _ _ _ _ (sort_by a.image) _ ∙ pair_row_lem a.start a.image a.opening a.closing a.definitions.now a.count a.t _ c.in-Shortcut.is c.requires.sized c.new-whole.ensures c.text_from.ensures c.new-text.ensures (defined_by a.start a.image a.opening a.closing a.definitions.now a.count (names_as a.count a.definitions.now c.in-Shortcut.is c.requires.names).0 c.definition_at-in-Shortcut.ensures)

@@ -1,5 +1,4 @@
 -- What was counted and what is left come to the whole.
-use Prim.Native.Nat.{◌-◌}
 use native.Mathlib.Omega.{arith}
 use mathlib.Core.Path.{sym, ◌∙◌}
 use Rattle.inline.specs.Pieces.{backtick}
@@ -12,9 +11,9 @@ loop-i-init c = counting_starts _
 
 pub with_mark-m-requires : goal.with_mark-m-requires
 with_mark-m-requires c = let l = c.loop-i.invariant in record {
-        ends_bound = omega (arith, l.few_ends, c.requires);
-        held_bound = omega (arith, l.few_held, c.requires);
-    }
+  ends_bound = omega (arith, l.few_ends, c.requires);
+  held_bound = omega (arith, l.few_held, c.requires);
+}
 
 pub loop-i-smaller-then-is_bracket : goal.loop-i-smaller-then-is_bracket
 loop-i-smaller-then-is_bracket c = omega (arith, c.loop-i-test.true)
@@ -24,9 +23,9 @@ loop-i-preserved-then-is_bracket c = pass_bracket _ _ c.loop-i-test.true c.loop-
 
 pub with_mark-m-requires-then-b-eq96 : goal.with_mark-m-requires-then-b-eq96
 with_mark-m-requires-then-b-eq96 c = let l = c.loop-i.invariant in record {
-        ends_bound = omega (arith, l.few_ends, c.requires);
-        held_bound = omega (arith, l.few_held, c.requires);
-    }
+  ends_bound = omega (arith, l.few_ends, c.requires);
+  held_bound = omega (arith, l.few_held, c.requires);
+}
 
 pub loop-i-smaller-then-b-eq96 : goal.loop-i-smaller-then-b-eq96
 loop-i-smaller-then-b-eq96 c = omega (arith, past_on backtick _ _ c.backticks_end-i.ensures, c.loop-i-test.true)
@@ -42,6 +41,6 @@ loop-i-preserved c = pass_text _ _ c.loop-i-test.true c.loop-i.invariant (sym c.
 
 pub returns : goal.returns
 returns c = let h = c.loop-i-test.false in let n = c.loop-i.invariant in record {
-        ends_value = all_ends _ _ h n;
-        held_value = all_held _ _ h n c.plus_one_if.ensures;
-    }
+  ends_value = all_ends _ _ h n;
+  held_value = all_held _ _ h n c.plus_one_if.ensures;
+}

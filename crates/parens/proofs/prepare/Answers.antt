@@ -5,9 +5,9 @@ use Rattle.parens.proofs.prepare.Goals as goal
 
 pub returns-then-marks-n-eq1 : goal.returns-then-marks-n-eq1
 returns-then-marks-n-eq1 c = let t = c.requires in record {
-        marks = t.made c.if-marks-n-eq1.true;
-        prepared = t;
-    }
+  marks = t.made c.if-marks-n-eq1.true;
+  prepared = t;
+}
 
 pub returns : goal.returns
 returns c = search (told, still_marks, rules)

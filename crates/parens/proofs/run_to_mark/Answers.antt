@@ -1,5 +1,4 @@
 use borrow.Author.Rules.{rules}
-use Prim.Native.Nat.{◌-◌}
 use Rattle.parens.proofs.Running.{begins, on, halts_here, ends_here, given_up}
 use Rattle.parens.proofs.run_to_mark.Goals as goal
 

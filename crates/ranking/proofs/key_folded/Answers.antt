@@ -18,9 +18,9 @@ returns-then-x-eq256 c = c.front_of.ensures ∙ key_end _ _ _ c.next_byte-x.ensu
 
 pub mixed_in-h-requires : goal.mixed_in-h-requires
 mixed_in-h-requires c = record {
-        h_bound = c.loop-x.invariant.0;
-        b_bound = small c.args.s.now (λ k. omega (arith, c.type_inv.s k)) c.loop-x.i c.loop-x.w _ c.next_byte-x.ensures c.if-x-eq256.false;
-    }
+  h_bound = c.loop-x.invariant.0;
+  b_bound = small c.args.s.now (λ k. omega (arith, c.type_inv.s k)) c.loop-x.i c.loop-x.w _ c.next_byte-x.ensures c.if-x-eq256.false;
+}
 
 pub loop-x-smaller : goal.loop-x-smaller
 loop-x-smaller c = shortens _ _ c.next_byte-x.ensures c.if-x-eq256.false

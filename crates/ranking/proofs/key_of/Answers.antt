@@ -1,7 +1,6 @@
 -- What is left of the label mixes to its key; a turn takes a byte that is no blank, or blanks and the byte after them.
 use borrow.Author.Rules.{rules}
 use native.Mathlib.Omega.{arith}
-use Prim.Native.Nat.{◌-◌}
 use mathlib.Core.Path.{refl, ◌∙◌}
 use Rattle.alike.proofs.Left.{past_from}
 use Rattle.ranking.proofs.Plain.{key_begins, ink_inside, key_ink, key_over, key_plain}
@@ -12,9 +11,9 @@ loop-h-init c = (omega arith, key_begins c.args.s.now, search rules)
 
 pub mixed_in-h-requires : goal.mixed_in-h-requires
 mixed_in-h-requires c = record {
-        h_bound = c.loop-h.invariant.0;
-        b_bound = search rules;
-    }
+  h_bound = c.loop-h.invariant.0;
+  b_bound = search rules;
+}
 
 pub overflow_add-i : goal.overflow_add-i
 overflow_add-i c = omega (arith, ink_inside c.args.s.now c.loop-h.i c.peek-b.ensures c.if-b.true, c.loop-h.invariant.2)
@@ -42,9 +41,9 @@ mixed_gap-requires c = c.loop-h.invariant.0
 
 pub mixed_in-h-requires-in-loop-h : goal.mixed_in-h-requires-in-loop-h
 mixed_in-h-requires-in-loop-h c = record {
-        h_bound = c.mixed_gap.ensures.upper_bound;
-        b_bound = search rules;
-    }
+  h_bound = c.mixed_gap.ensures.upper_bound;
+  b_bound = search rules;
+}
 
 pub loop-h-smaller : goal.loop-h-smaller
 loop-h-smaller c = omega (arith, past_from _ _ _ c.past_blanks-p.ensures)

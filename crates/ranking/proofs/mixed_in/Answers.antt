@@ -8,6 +8,6 @@ use Rattle.ranking.proofs.mixed_in.Goals as goal
 pub returns : goal.returns
 unfolding mix
 returns c = record {
-        value = refl;
-        upper_bound = mod-lt _ (omega arith);
-    }
+  value = refl;
+  upper_bound = mod-lt _ (omega arith);
+}

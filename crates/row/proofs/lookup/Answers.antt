@@ -12,8 +12,8 @@ label_at-own-requires c =
     let f = c.requires in
     let r = f.room in
     let z = c.if-n-eq0.false in record {
-        at_in_bounds = omega arith;
-        within = f.labels 0 (omega arith);
+      at_in_bounds = omega arith;
+      within = f.labels 0 (omega arith);
     }
 
 pub returns-then-first-peek : goal.returns-then-first-peek

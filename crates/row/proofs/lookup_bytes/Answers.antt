@@ -1,6 +1,5 @@
 -- The rows left give what all of them do, and what is left of a row's label compares as the whole does.
 use borrow.Author.Rules.{rules}
-use Prim.Native.Nat.{◌-◌}
 use native.Mathlib.Omega.{arith}
 use mathlib.Core.Path.{refl, sym, ◌∙◌}
 use Rattle.alike.proofs.Left.{past_from}
@@ -15,9 +14,9 @@ rows-init c = begins _ _ _ _
 
 pub label_at-own-requires : goal.label_at-own-requires
 label_at-own-requires c = record {
-        at_in_bounds = search rules;
-        within = label_within _ _ _ c.rows.invariant c.if-size-at.false c.requires;
-    }
+  at_in_bounds = search rules;
+  within = label_within _ _ _ c.rows.invariant c.if-size-at.false c.requires;
+}
 
 pub rows-preserved-then-are_unlike : goal.rows-preserved-then-are_unlike
 rows-preserved-then-are_unlike c = miss _ _ _ c.rows.invariant c.if-size-at.false c.label_at-own.ensures (unlike_first _ _ c.peek.ensures c.peek-first.ensures c.are_unlike.ensures c.if-are_unlike.true)

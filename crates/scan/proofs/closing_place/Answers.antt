@@ -1,6 +1,5 @@
 -- The loop's state is the definition's state, and each way through a turn is one case of `closing_step`.
 use borrow.Author.Rules.{rules}
-use Prim.Native.Nat.{◌-◌}
 use Rattle.scan.proofs.Scan.{stops, goes, ends}
 use Rattle.scan.specs.Reading.{closing}
 use Rattle.scan.proofs.Closing.{closes, bars, passed}

@@ -1,6 +1,5 @@
 -- The place past the strides is the same from every place passed.
 use borrow.Author.Rules.{rules}
-use Prim.Native.Nat.{◌-◌}
 use Rattle.scan.proofs.Strides.{strides_on, strides_stop, strides_end}
 use Rattle.scan.proofs.past_like.Goals as goal
 

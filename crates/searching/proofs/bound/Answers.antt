@@ -1,6 +1,5 @@
 -- The window narrows to one place, and what stands at its end was seen.
 use native.Mathlib.Omega.{arith}
-use Prim.Native.Nat.{◌-◌}
 use Rattle.searching.proofs.Turn.{narrow_front, narrow_back, closed, seen_none, seen_at, seen_closed}
 use Rattle.searching.proofs.bound.Goals as goal
 
@@ -16,10 +15,10 @@ overflow_add-mid c = omega (arith, c.loop-lo.invariant.0.inside)
 pub rank_at-r-requires : goal.rank_at-r-requires
 rank_at-r-requires c =
     let r = c.requires in record {
-        fit = r.fit;
-        sorted = r.sorted;
-        p_lt_count = omega (arith, c.loop-lo.invariant.0.inside);
-        h_value = r.h_value;
+      fit = r.fit;
+      sorted = r.sorted;
+      p_lt_count = omega (arith, c.loop-lo.invariant.0.inside);
+      h_value = r.h_value;
     }
 
 pub overflow_add-lo : goal.overflow_add-lo
@@ -46,6 +45,6 @@ pub returns : goal.returns
 returns c =
     let w = c.loop-lo.invariant in
     let e = c.loop-lo-test.false in record {
-        window_2 = closed w.0 e;
-        seen = seen_closed w.0 e w.1;
+      window_2 = closed w.0 e;
+      seen = seen_closed w.0 e w.1;
     }

@@ -20,8 +20,8 @@ pub label_at-bytes-requires : goal.label_at-bytes-requires
 label_at-bytes-requires c =
     let r = c.requires in
     let i = (r.sorted.entries c.args.p r.p_lt_count).row in record {
-        at_in_bounds = (label_there r.fit c.row_in-k.result (omega (arith, c.row_in-k.ensures))).0;
-        within = (label_there r.fit c.row_in-k.result (omega (arith, c.row_in-k.ensures))).1;
+      at_in_bounds = (label_there r.fit c.row_in-k.result (omega (arith, c.row_in-k.ensures))).0;
+      within = (label_there r.fit c.row_in-k.result (omega (arith, c.row_in-k.ensures))).1;
     }
 
 pub returns-then-are_equal : goal.returns-then-are_equal

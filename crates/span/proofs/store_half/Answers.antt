@@ -7,15 +7,15 @@ use Rattle.span.proofs.store_half.Goals as goal
 
 pub store_range-requires : goal.store_range-requires
 store_range-requires c = record {
-        at_in_bounds = simp length-set (omega arith);
-        small_part = search rules;
-    }
+  at_in_bounds = simp length-set (omega arith);
+  small_part = search rules;
+}
 
 pub store_range-requires-2 : goal.store_range-requires-2
 store_range-requires-2 c = record {
-        at_in_bounds = omega (arith, simp length-set at c.store_range.auto.table);
-        small_part = search rules;
-    }
+  at_in_bounds = omega (arith, simp length-set at c.store_range.auto.table);
+  small_part = search rules;
+}
 
 pub shape_of-table : goal.shape_of-table
 shape_of-table c = omega (arith, simp length-set at c.store_range.auto.table)

@@ -20,5 +20,5 @@ returns c =
     let all = c.fill_text-all.ensures in record {
         counted = both_counted T own.counted all.counted;
         stored = both_stored T a.table.now own.counted own.stored all.stored;
-        listed = list_kept c.fill_text-all.new.1.1.1.1.0 (omega arith) (own.listed c.requires.note_in_bounds);
+        listed = list_kept c.fill_text-all.new.list (omega arith) (own.listed c.requires.note_in_bounds);
     }

@@ -12,7 +12,6 @@ use Rattle.row.specs.declared.Range.{Range}
 use Rattle.row.specs.Row.{range, absent}
 use Rattle.inline.specs.ReadingTails.{space_end, closed_at, after_destination}
 use Rattle.inline.specs.declared.InlineTail.{InlineTail}
-use Rattle.inline.specs.declared.InlineTail.TheVariants.{Nothing}
 use Rattle.tail.proofs.after_destination.Goals as goal
 
 module _ (s : List ℕ) (n h : ℕ) (d : Range) {t : Range} {r : InlineTail} where

@@ -37,24 +37,24 @@ starts_plain s eb e eg = rw eg (after_parenthesis s (sym eb ∙ e))
 
 pub returns-then-peek-ne40 : goal.returns-then-peek-ne40
 returns-then-peek-ne40 c = record {
-        value = unopened _ c.peek.ensures c.if-peek-ne40.true;
-        prepared = c.requires;
-    }
+  value = unopened _ c.peek.ensures c.if-peek-ne40.true;
+  prepared = c.requires;
+}
 
 pub destination-requires : goal.destination-requires
 destination-requires c = record {
-        at_value = starts_plain _ c.peek.ensures c.if-peek-ne40.false c.space_end_lem.ensures;
-        prepared = c.requires;
-    }
+  at_value = starts_plain _ c.peek.ensures c.if-peek-ne40.false c.space_end-g.ensures;
+  prepared = c.requires;
+}
 
 pub returns-in-Span : goal.returns-in-Span
 returns-in-Span c = record {
-        value = with_destination _ c.peek.ensures c.if-peek-ne40.false c.space_end_lem.ensures c.destination.ensures.value c.in-Span.is c.space_end.ensures c.new.ensures c.after_destination.ensures;
-        prepared = c.destination.ensures.prepared_2;
-    }
+  value = with_destination _ c.peek.ensures c.if-peek-ne40.false c.space_end-g.ensures c.destination.ensures.value c.in-Span.is c.space_end.ensures c.new.ensures c.after_destination.ensures;
+  prepared = c.destination.ensures.prepared_2;
+}
 
 pub returns-in-Nothing : goal.returns-in-Nothing
 returns-in-Nothing c = record {
-        value = without _ c.peek.ensures c.if-peek-ne40.false c.space_end_lem.ensures c.destination.ensures.value c.in-Nothing.is c.space_end-in-Nothing.ensures c.absent.ensures c.absent-in-Nothing.ensures c.closed_at.ensures;
-        prepared = c.destination.ensures.prepared_2;
-    }
+  value = without _ c.peek.ensures c.if-peek-ne40.false c.space_end-g.ensures c.destination.ensures.value c.in-Nothing.is c.space_end-in-Nothing.ensures c.absent.ensures c.absent-in-Nothing.ensures c.closed_at.ensures;
+  prepared = c.destination.ensures.prepared_2;
+}

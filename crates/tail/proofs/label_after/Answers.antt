@@ -10,10 +10,10 @@ pub returns-then-peek-ne91 : goal.returns-then-peek-ne91
 returns-then-peek-ne91 c = no_label_from _ c.peek.ensures c.if-peek-ne91.true
 
 pub overflow_add-result : goal.overflow_add-result
-overflow_add-result c = let s = c.args.rest.now in let q = label_inside s _ (sym (label_from s c.peek.ensures c.if-peek-ne91.false c.label_ends_at.ensures) ∙ c.in-At.is) in omega arith
+overflow_add-result c = let s = c.args.rest.now in let q = label_inside s _ (sym (label_from s c.peek.ensures c.if-peek-ne91.false c.label_end.ensures) ∙ c.in-At.is) in omega arith
 
 pub returns-in-At : goal.returns-in-At
-returns-in-At c = ap length_to (sym c.in-At.is) ∙ length_from _ c.peek.ensures c.if-peek-ne91.false c.label_ends_at.ensures
+returns-in-At c = ap length_to (sym c.in-At.is) ∙ length_from _ c.peek.ensures c.if-peek-ne91.false c.label_end.ensures
 
 pub returns-in-Nothing : goal.returns-in-Nothing
-returns-in-Nothing c = ap length_to (sym c.in-Nothing.is) ∙ length_from _ c.peek.ensures c.if-peek-ne91.false c.label_ends_at.ensures
+returns-in-Nothing c = ap length_to (sym c.in-Nothing.is) ∙ length_from _ c.peek.ensures c.if-peek-ne91.false c.label_end.ensures

@@ -19,14 +19,14 @@ slice_bounds-full_reference-end c = let q = length_inside c.args.rest.now _ (sym
 
 pub returns-in-At : goal.returns-in-At
 returns-in-At c = let a = c.args in let q = length_inside c.args.rest.now _ (sym c.label_after.ensures ∙ c.in-At.is) in record {
-        by_index = (λ at. c.full_reference.ensures.by_index at ∙ full_reference_by (texts a.note.now a.sheet.now) a.definitions.now a.count a.text.now a.rest.now _ q.0 q.2);
-        sized = c.full_reference.ensures.sized;
-        ready_2 = c.full_reference.ensures.ready_2;
-    }
+  by_index = (λ at. c.full_reference.ensures.by_index at ∙ full_reference_by (texts a.note.now a.sheet.now) a.definitions.now a.count a.text.now a.rest.now _ q.0 q.2);
+  sized = c.full_reference.ensures.sized;
+  ready_2 = c.full_reference.ensures.ready_2;
+}
 
 pub returns-in-Nothing : goal.returns-in-Nothing
 returns-in-Nothing c = record {
-        by_index = (λ at. c.text_reference.ensures.by_index at ∙ reference_by_lem _ _ _ _ _ _ (length_none _ (sym c.label_after.ensures ∙ c.in-Nothing.is)));
-        sized = c.text_reference.ensures.sized;
-        ready_2 = c.text_reference.ensures.ready_2;
-    }
+  by_index = (λ at. c.text_reference.ensures.by_index at ∙ reference_by_lem _ _ _ _ _ _ (length_none _ (sym c.label_after.ensures ∙ c.in-Nothing.is)));
+  sized = c.text_reference.ensures.sized;
+  ready_2 = c.text_reference.ensures.ready_2;
+}

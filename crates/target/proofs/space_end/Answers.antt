@@ -1,6 +1,5 @@
 -- The loop's state is the definition's state, and each way through a turn is one case of `space_from`.
 use borrow.Author.Rules.{rules}
-use Prim.Native.Nat.{◌-◌}
 use Rattle.target.proofs.Turns.{space_on, space_stop, space_out}
 use Rattle.target.proofs.space_end.Goals as goal
 

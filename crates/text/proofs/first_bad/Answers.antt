@@ -1,5 +1,4 @@
 -- What is left is read as the whole would be: each turn passes one good character, and strides of ASCII after it.
-use Prim.Native.Nat.{◌-◌}
 use native.Mathlib.Omega.{arith}
 use borrow.Author.Rules.{rules}
 use Rattle.text.proofs.Steps.{bad_here, none_bad, within_note}

@@ -11,4 +11,4 @@ returns-then-b c = simp (get_or-drop, add-zero, sym c.peek-b.ensures, c.if-b.tru
 
 pub returns : goal.returns
 unfolding good_length
-returns c = simp (c.character_length_lem.ensures, get_or-drop, add-zero, sym c.peek-b.ensures, c.if-b.false)
+returns c = simp (c.character_length.ensures, get_or-drop, add-zero, sym c.peek-b.ensures, c.if-b.false)

@@ -1,5 +1,4 @@
 -- Each arm is one case of the definition.
-use borrow.Author.Tests.{ne_eqb}
 use Rattle.text.proofs.most_second.Goals as goal
 
 pub returns-in-237 : goal.returns-in-237
@@ -7,6 +6,3 @@ returns-in-237 c = rw c.in-237.is
 
 pub returns-in-244 : goal.returns-in-244
 returns-in-244 c = rw c.in-244.is
-
-pub returns-in_default : goal.returns-in_default
-returns-in_default c = simp (ne_eqb _ _ c.in_default.in_default-own.rest.0.1, ne_eqb _ _ c.in_default.in_default-own.rest.1)

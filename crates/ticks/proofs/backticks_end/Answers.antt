@@ -2,7 +2,7 @@
 use borrow.Author.Rules.{rules}
 use mathlib.Core.Path.{◌∙◌}
 use native.Mathlib.Omega.{arith}
-use Prim.Native.Nat.{◌+◌, ◌-◌}
+use Prim.Native.Nat.{◌+◌}
 use Rattle.scan.proofs.Scan.{past_end}
 use Rattle.scan.proofs.Strides.{strides_low}
 use Rattle.ticks.proofs.Past.{tick_stride, tick_strides, tick_on, tick_stop}

@@ -1,6 +1,5 @@
 -- What is left to search is the same at every place where the loop stands: past a run of another length.
 use native.Mathlib.Omega.{arith}
-use Prim.Native.Nat.{◌-◌}
 use Rattle.inline.specs.Pieces.{backtick}
 use Rattle.ticks.proofs.Past.{past_low, further}
 use Rattle.ticks.proofs.Runs.{run_closes, run_passed, none_left}

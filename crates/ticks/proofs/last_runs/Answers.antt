@@ -1,6 +1,5 @@
 -- Each turn puts the next run into the table; at the end of the text an empty one, into place 0.
 use native.Mathlib.Omega.{arith}
-use Prim.Native.Nat.{◌-◌}
 use Rattle.inline.specs.Pieces.{backtick}
 use Rattle.ticks.proofs.Past.{past_low, within, further}
 use Rattle.ticks.proofs.Passing.{begins, turn, all_seen, told_made}
@@ -16,8 +15,8 @@ overflow_sub-e c =
 pub put-requires : goal.put-requires
 put-requires c =
     let h = within c.args.p.now c.loop-i.i c.loop-i-test.true c.next_backtick-a.ensures c.backticks_end-e.ensures in record {
-        table_len = c.loop-i.invariant.size;
-        e_bound = omega (arith, c.requires);
+      table_len = c.loop-i.invariant.size;
+      e_bound = omega (arith, c.requires);
     }
 
 pub loop-i-smaller : goal.loop-i-smaller
@@ -31,6 +30,6 @@ loop-i-preserved c =
 pub returns : goal.returns
 returns c =
     let p = c.args.p.now in record {
-        last_runs = all_seen p c.loop-i.i c.loop-i.table c.loop-i.invariant c.loop-i-test.false;
-        nonzero = told_made p c.loop-i.i c.loop-i.table c.loop-i.invariant;
+      last_runs = all_seen p c.loop-i.i c.loop-i.table c.loop-i.invariant c.loop-i-test.false;
+      nonzero = told_made p c.loop-i.i c.loop-i.table c.loop-i.invariant;
     }

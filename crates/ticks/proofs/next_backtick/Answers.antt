@@ -2,7 +2,7 @@
 use borrow.Author.Rules.{rules}
 use mathlib.Core.Path.{◌∙◌}
 use native.Mathlib.Omega.{arith}
-use Prim.Native.Nat.{◌+◌, ◌-◌}
+use Prim.Native.Nat.{◌+◌}
 use Rattle.scan.proofs.Scan.{past_end}
 use Rattle.scan.proofs.Strides.{strides_low}
 use Rattle.ticks.proofs.Past.{other_stride, other_strides, other_on, other_stop}

@@ -1,64 +1,55 @@
 -- The tag of the row's sort, from the text that its definition names.
-use Prim.Native.Nat.{ℕ}
-use mathlib.Core.List.{List}
 use borrow.Author.Tests.{le-leb, lt-leb}
-use Rattle.texts.specs.Texts.{Texts, texts}
+use Rattle.texts.specs.Texts.{texts}
 use Rattle.span.specs.Row.{numbers}
 use Rattle.writer.proofs.Steps.{numbered, destination_lies, title_lies, opening_link, opening_image}
 use Rattle.writer.proofs.put_open.Goals as goal
-use Rattle.writer.proofs.put_open.Goals.{Start}
-
-abbrev Two : tie.Start → Texts
-Two t = texts t.args.note.now t.args.sheet.now
-
-abbrev Row : tie.Start → List ℕ
-Row t = numbers t.args.note.now t.args.row
 
 pub text_for-text-requires : goal.text_for-text-requires
 text_for-text-requires c = record {
-        listing = c.requires.listing;
-        number_in_bounds = numbered (Two (goal.at.text_for-text-requires c).Start) (Row (goal.at.text_for-text-requires c).Start) c.requires.fact;
-    }
+  listing = c.requires.listing;
+  number_in_bounds = numbered (texts c.args.note.now c.args.sheet.now) (numbers c.args.note.now c.args.row) c.requires.fact;
+}
 
 pub slice_bounds-put_link_open-count : goal.slice_bounds-put_link_open-count
-slice_bounds-put_link_open-count c = (destination_lies (Two (goal.at.slice_bounds-put_link_open-count c).Start) (Row (goal.at.slice_bounds-put_link_open-count c).Start) c.requires.fact c.text_for-text.ensures).ordered
+slice_bounds-put_link_open-count c = (destination_lies (texts c.args.note.now c.args.sheet.now) (numbers c.args.note.now c.args.row) c.requires.fact c.text_for-text.ensures).ordered
 
 pub slice_bounds-put_link_open-start : goal.slice_bounds-put_link_open-start
-slice_bounds-put_link_open-start c = (destination_lies (Two (goal.at.slice_bounds-put_link_open-start c).Start) (Row (goal.at.slice_bounds-put_link_open-start c).Start) c.requires.fact c.text_for-text.ensures).ordered
+slice_bounds-put_link_open-start c = (destination_lies (texts c.args.note.now c.args.sheet.now) (numbers c.args.note.now c.args.row) c.requires.fact c.text_for-text.ensures).ordered
 
 pub slice_bounds-put_link_open-end : goal.slice_bounds-put_link_open-end
-slice_bounds-put_link_open-end c = (destination_lies (Two (goal.at.slice_bounds-put_link_open-end c).Start) (Row (goal.at.slice_bounds-put_link_open-end c).Start) c.requires.fact c.text_for-text.ensures).inside
+slice_bounds-put_link_open-end c = (destination_lies (texts c.args.note.now c.args.sheet.now) (numbers c.args.note.now c.args.row) c.requires.fact c.text_for-text.ensures).inside
 
 pub slice_bounds-put_link_open-count-then-row-lt-INLINE_IMAGE : goal.slice_bounds-put_link_open-count-then-row-lt-INLINE_IMAGE
-slice_bounds-put_link_open-count-then-row-lt-INLINE_IMAGE c = (title_lies (Two (goal.at.slice_bounds-put_link_open-count-then-row-lt-INLINE_IMAGE c).Start) (Row (goal.at.slice_bounds-put_link_open-count-then-row-lt-INLINE_IMAGE c).Start) c.requires.fact c.text_for-text.ensures).ordered
+slice_bounds-put_link_open-count-then-row-lt-INLINE_IMAGE c = (title_lies (texts c.args.note.now c.args.sheet.now) (numbers c.args.note.now c.args.row) c.requires.fact c.text_for-text.ensures).ordered
 
 pub slice_bounds-put_link_open-start-then-row-lt-INLINE_IMAGE : goal.slice_bounds-put_link_open-start-then-row-lt-INLINE_IMAGE
-slice_bounds-put_link_open-start-then-row-lt-INLINE_IMAGE c = (title_lies (Two (goal.at.slice_bounds-put_link_open-start-then-row-lt-INLINE_IMAGE c).Start) (Row (goal.at.slice_bounds-put_link_open-start-then-row-lt-INLINE_IMAGE c).Start) c.requires.fact c.text_for-text.ensures).ordered
+slice_bounds-put_link_open-start-then-row-lt-INLINE_IMAGE c = (title_lies (texts c.args.note.now c.args.sheet.now) (numbers c.args.note.now c.args.row) c.requires.fact c.text_for-text.ensures).ordered
 
 pub slice_bounds-put_link_open-end-then-row-lt-INLINE_IMAGE : goal.slice_bounds-put_link_open-end-then-row-lt-INLINE_IMAGE
-slice_bounds-put_link_open-end-then-row-lt-INLINE_IMAGE c = (title_lies (Two (goal.at.slice_bounds-put_link_open-end-then-row-lt-INLINE_IMAGE c).Start) (Row (goal.at.slice_bounds-put_link_open-end-then-row-lt-INLINE_IMAGE c).Start) c.requires.fact c.text_for-text.ensures).inside
+slice_bounds-put_link_open-end-then-row-lt-INLINE_IMAGE c = (title_lies (texts c.args.note.now c.args.sheet.now) (numbers c.args.note.now c.args.row) c.requires.fact c.text_for-text.ensures).inside
 
 pub put_link_open-requires : goal.put_link_open-requires
 put_link_open-requires c =
-    rw (opening_link (Two (goal.at.put_link_open-requires c).Start) (Row (goal.at.put_link_open-requires c).Start) c.text_for-text.ensures (lt-leb 6 c.args.row.kind c.if-row-lt-INLINE_IMAGE.true)) at c.requires.row_bound
+    rw (opening_link (texts c.args.note.now c.args.sheet.now) (numbers c.args.note.now c.args.row) c.text_for-text.ensures (lt-leb 6 c.args.row.kind c.if-row-lt-INLINE_IMAGE.true)) at c.requires.row_bound
 
 pub returns-then-row-lt-INLINE_IMAGE : goal.returns-then-row-lt-INLINE_IMAGE
 returns-then-row-lt-INLINE_IMAGE c =
-    rw (opening_link (Two (goal.at.returns-then-row-lt-INLINE_IMAGE c).Start) (Row (goal.at.returns-then-row-lt-INLINE_IMAGE c).Start) c.text_for-text.ensures (lt-leb 6 c.args.row.kind c.if-row-lt-INLINE_IMAGE.true)) c.put_link_open.ensures
+    rw (opening_link (texts c.args.note.now c.args.sheet.now) (numbers c.args.note.now c.args.row) c.text_for-text.ensures (lt-leb 6 c.args.row.kind c.if-row-lt-INLINE_IMAGE.true)) c.put_link_open.ensures
 
 pub slice_bounds-put_image_open-count : goal.slice_bounds-put_image_open-count
-slice_bounds-put_image_open-count c = (destination_lies (Two (goal.at.slice_bounds-put_image_open-count c).Start) (Row (goal.at.slice_bounds-put_image_open-count c).Start) c.requires.fact c.text_for-text.ensures).ordered
+slice_bounds-put_image_open-count c = (destination_lies (texts c.args.note.now c.args.sheet.now) (numbers c.args.note.now c.args.row) c.requires.fact c.text_for-text.ensures).ordered
 
 pub slice_bounds-put_image_open-start : goal.slice_bounds-put_image_open-start
-slice_bounds-put_image_open-start c = (destination_lies (Two (goal.at.slice_bounds-put_image_open-start c).Start) (Row (goal.at.slice_bounds-put_image_open-start c).Start) c.requires.fact c.text_for-text.ensures).ordered
+slice_bounds-put_image_open-start c = (destination_lies (texts c.args.note.now c.args.sheet.now) (numbers c.args.note.now c.args.row) c.requires.fact c.text_for-text.ensures).ordered
 
 pub slice_bounds-put_image_open-end : goal.slice_bounds-put_image_open-end
-slice_bounds-put_image_open-end c = (destination_lies (Two (goal.at.slice_bounds-put_image_open-end c).Start) (Row (goal.at.slice_bounds-put_image_open-end c).Start) c.requires.fact c.text_for-text.ensures).inside
+slice_bounds-put_image_open-end c = (destination_lies (texts c.args.note.now c.args.sheet.now) (numbers c.args.note.now c.args.row) c.requires.fact c.text_for-text.ensures).inside
 
 pub put_image_open-requires : goal.put_image_open-requires
 put_image_open-requires c =
-    rw (opening_image (Two (goal.at.put_image_open-requires c).Start) (Row (goal.at.put_image_open-requires c).Start) c.text_for-text.ensures (le-leb 6 c.args.row.kind c.if-row-lt-INLINE_IMAGE.false)) at c.requires.row_bound
+    rw (opening_image (texts c.args.note.now c.args.sheet.now) (numbers c.args.note.now c.args.row) c.text_for-text.ensures (le-leb 6 c.args.row.kind c.if-row-lt-INLINE_IMAGE.false)) at c.requires.row_bound
 
 pub returns : goal.returns
 returns c =
-    rw (opening_image (Two (goal.at.returns c).Start) (Row (goal.at.returns c).Start) c.text_for-text.ensures (le-leb 6 c.args.row.kind c.if-row-lt-INLINE_IMAGE.false)) c.put_image_open.ensures
+    rw (opening_image (texts c.args.note.now c.args.sheet.now) (numbers c.args.note.now c.args.row) c.text_for-text.ensures (le-leb 6 c.args.row.kind c.if-row-lt-INLINE_IMAGE.false)) c.put_image_open.ensures

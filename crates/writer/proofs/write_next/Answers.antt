@@ -21,9 +21,9 @@ span_at-row-requires c = let a = c.requires in omega (arith, a.spanned.room, sta
 pub write_start-requires : goal.write_start-requires
 write_start-requires c =
     let a = c.requires in record {
-        listing = a.listing;
-        starts_here = (start_span a.spanned a.started a.stands c.if-entry-ne0.true c.row_of.ensures c.span_at-row.ensures c.has_tags-tags.ensures, a.stands.room);
-        room = ;
+      listing = a.listing;
+      starts_here = start_span a.spanned a.started a.stands c.if-entry-ne0.true c.row_of.ensures c.span_at-row.ensures c.has_tags-tags.ensures;
+      room = a.stands.room;
     }
 
 pub returns-then-entry-ne0 : goal.returns-then-entry-ne0
@@ -49,12 +49,9 @@ bounds-starts-from c = omega (arith, start (goal.at.bounds-starts-from c).After-
 pub write_close-requires : goal.write_close-requires
 write_close-requires c =
     let a = c.requires in record {
-        listing = a.listing;
-        closes_here = (
-        close_span a.spanned a.started a.stands c.if-entry-ne0.false c.next_closing.ensures c.closing_place-close.ensures c.if-close-at.true c.span_at-row-then-close-at.ensures c.has_tags-tags-then-close-at.ensures,
-        a.stands.room,
-      );
-        room = ;
+      listing = a.listing;
+      closes_here = close_span a.spanned a.started a.stands c.if-entry-ne0.false c.next_closing.ensures c.closing_place-close.ensures c.if-close-at.true c.span_at-row-then-close-at.ensures c.has_tags-tags-then-close-at.ensures;
+      room = a.stands.room;
     }
 
 pub returns-then-close-at : goal.returns-then-close-at

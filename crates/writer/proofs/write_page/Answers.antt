@@ -12,16 +12,10 @@ loop-start-init c = search turns
 
 pub next_listed-requires : goal.next_listed-requires
 next_listed-requires c = record {
-        remembers = c.requires.remembers;
-        k_le_n = c.loop-start.invariant.among;
-        at_value = c.loop-start.invariant.looked;
-    }
-
-pub enum_known-start : goal.enum_known-start
-enum_known-start c = search turns
-
-pub enum_told-1 : goal.enum_told-1
-enum_told-1 c = search turns
+  remembers = c.requires.remembers;
+  k_le_n = c.loop-start.invariant.among;
+  at_value = c.loop-start.invariant.looked;
+}
 
 pub shape_of-page-in_default : goal.shape_of-page-in_default
 shape_of-page-in_default c = c.loop-start.invariant.written.same
@@ -32,10 +26,10 @@ returns-in_default c = search turns
 pub write_paragraph-p-requires : goal.write_paragraph-p-requires
 write_paragraph-p-requires c =
     let a = c.requires in record {
-        spanned = a.spanned;
-        started = a.started;
-        listing = a.listing;
-        starts = starts c.loop-start.invariant c.next_listed.ensures.read c.in-At.is a.spanned;
+      spanned = a.spanned;
+      started = a.started;
+      listing = a.listing;
+      starts = starts c.loop-start.invariant c.next_listed.ensures.read c.in-At.is a.spanned;
     }
 
 pub overflow_add-k : goal.overflow_add-k

@@ -15,10 +15,10 @@ loop-w-init c = opened c.requires.starts c.put.ensures
 pub write_next-w-requires : goal.write_next-w-requires
 write_next-w-requires c =
     let a = c.requires in record {
-        spanned = a.spanned;
-        started = a.started;
-        listing = a.listing;
-        stands = stands a.starts c.put.ensures c.loop-w.invariant c.loop-w-test.true;
+      spanned = a.spanned;
+      started = a.started;
+      listing = a.listing;
+      stands = stands a.starts c.put.ensures c.loop-w.invariant c.loop-w-test.true;
     }
 
 pub loop-w-smaller : goal.loop-w-smaller

@@ -23,9 +23,9 @@ returns-then-row-eq-CODE_SPAN c = code_passes c.args.p c.requires.starts_here (e
 pub put_open-requires : goal.put_open-requires
 put_open-requires c =
     let q = c.requires.starts_here in record {
-        listing = c.requires.listing;
-        fact = q.is_row;
-        row_bound = open_room c.args.p q (ne_eqb c.args.row.kind 1 c.if-row-eq-CODE_SPAN.false) c.if-tags.true c.requires.room;
+      listing = c.requires.listing;
+      fact = q.is_row;
+      row_bound = open_room c.args.p q (ne_eqb c.args.row.kind 1 c.if-row-eq-CODE_SPAN.false) c.if-tags.true c.requires.room;
     }
 
 pub returns-then-tags : goal.returns-then-tags

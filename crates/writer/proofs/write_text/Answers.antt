@@ -1,5 +1,5 @@
 -- Each turn writes the bytes that stand for themselves, and then an escape or a byte of the run.
-use Prim.Native.Nat.{ℕ, ◌-◌, ◌≤◌, ◌<◌}
+use Prim.Native.Nat.{◌-◌, ◌≤◌, ◌<◌}
 use native.Mathlib.Omega.{arith}
 use mathlib.Core.Path.{sym}
 use lib.ListN.{length, take}
@@ -8,7 +8,7 @@ use Rattle.texts.specs.Texts.{texts}
 use Rattle.writer.proofs.Steps.{moved}
 use Rattle.writer.proofs.Texts.{Runs, RunsText, runs, run_ends, run_to, run_room, run_runs, unit_inside, unit_room, unit_runs}
 use Rattle.writer.proofs.write_text.Goals as goal
-use Rattle.writer.proofs.write_text.Goals.{After-as_is_end-to, After-past_backslash-j, After-put, Else-to-stop}
+use Rattle.writer.proofs.write_text.Goals.{After-as_is_end-to, After-put}
 
 pub slice_bounds-text-end : goal.slice_bounds-text-end
 slice_bounds-text-end c = sym (length-take-le c.args.end c.args.note.now c.requires.plain.within)
@@ -43,25 +43,21 @@ put-requires c =
     run_room a.plain (c.loop-w.invariant a.sheet a.plain) c.loop-w-test.true c.as_is_end-to.ensures a.room
 
 -- they are written
-abbrev Start : tie.After-slice-known2 invariant_loop decreases_loop → tie.Start invariant_loop decreases_loop
-Start c = c.before.before.before.before.before.before.before.before.before.before.before.before.before
-
-abbrev To : tie.After-slice-known2 invariant_loop decreases_loop → ℕ
-To c = c.before.before.before.before.before.as_is_end.result
-
 ran : (c : After-put)
-    → RunsText (Start c).args.note.now (Start c).args.end (Start c).args.stop (Start c).args.p (Start c).args.page.now c.put.new.0 (moved c.loop-w.w (To c) c.put.result)
+    → RunsText c.args.note.now c.args.end c.args.stop c.args.p c.args.page.now c.put.new.page (moved c.loop-w.w c.as_is_end-to.result c.put.result)
 ran c = λ sheet q. run_runs q (c.loop-w.invariant sheet q) c.loop-w-test.true c.as_is_end-to.ensures c.put.ensures
 
 -- with the sheet that is known to give text there
 ran_here : (c : After-put)
-    → Runs (texts (Start c).args.note.now (Start c).requires.sheet) (Start c).args.end (Start c).args.p (Start c).args.page.now c.put.new.0 (moved c.loop-w.w (To c) c.put.result)
-ran_here c = ran c (Start c).requires.sheet (Start c).requires.plain
+    → Runs (texts c.args.note.now c.requires.sheet) c.args.end c.args.p c.args.page.now c.put.new.page (moved c.loop-w.w c.as_is_end-to.result c.put.result)
+ran_here c = ran c c.requires.sheet c.requires.plain
 
-to_stop : (c : After-put) → To c ≤ (Start c).args.stop
+to_stop : (c : After-put) → c.as_is_end-to.result ≤ c.args.stop
 to_stop c =
-    let q = (Start c).requires.plain in
-    omega (arith, (ends c).1, length-take-le (Start c).args.stop (Start c).args.note.now (omega (arith, q.inside, q.within)))
+    let q = c.requires.plain in
+    let a = c.requires in
+    let e = run_to a.plain (c.loop-w.invariant a.sheet a.plain) c.loop-w-test.true c.as_is_end-to.ensures in
+    omega (arith, e.1, length-take-le c.args.stop c.args.note.now (omega (arith, q.inside, q.within)))
 
 pub shape_of-page-then-to-stop : goal.shape_of-page-then-to-stop
 shape_of-page-then-to-stop c = (ran_here (goal.at.shape_of-page-then-to-stop c).After-put).written.same
@@ -69,40 +65,45 @@ shape_of-page-then-to-stop c = (ran_here (goal.at.shape_of-page-then-to-stop c).
 pub returns-then-to-stop : goal.returns-then-to-stop
 returns-then-to-stop c = λ sheet q. run_ends q (ran (goal.at.returns-then-to-stop c).After-put sheet q) (omega (arith, c.if-to-stop.true))
 
-unfinished : (c : Else-to-stop) → To c < (Start c).args.stop
-unfinished c = omega (arith, to_stop c, c.if-to-stop.false)
-
 pub past_backslash-j-requires : goal.past_backslash-j-requires
 past_backslash-j-requires c =
-    let t = Start (goal.at.past_backslash-j-requires c).After-put in
-    omega (arith, unfinished (goal.at.past_backslash-j-requires c).Else-to-stop, t.pre.plain.inside, length-take-le t.args.end t.args.note.now t.pre.plain.within)
-
--- the byte of the unit after them
-byte_inside : (c : After-past_backslash-j)
-    → (To c ≤ c.past_backslash-j.result)
-    × (c.past_backslash-j.result < length (take (Start c).args.end (Start c).args.note.now))
-byte_inside c = unit_inside (Start c).pre.plain (ran_here c) (unfinished c) c.past_backslash-j.ensures
+    let q = c.requires.plain in
+    omega (arith, to_stop (goal.at.past_backslash-j-requires c).After-put, c.if-to-stop.false, q.inside, length-take-le c.args.end c.args.note.now q.within)
 
 pub bounds-text-j : goal.bounds-text-j
-bounds-text-j c = (byte_inside (goal.at.bounds-text-j c).After-past_backslash-j).1
+bounds-text-j c =
+    let x = (goal.at.bounds-text-j c).After-put in
+    (unit_inside c.requires.plain (ran_here x) (omega (arith, to_stop x, c.if-to-stop.false)) c.past_backslash-j.ensures).1
 
 pub put_escaped-requires : goal.put_escaped-requires
 put_escaped-requires c =
-    let t = Start (goal.at.put_escaped-requires c).After-put in
-    unit_room t.pre.plain (ran_here (goal.at.put_escaped-requires c).After-put) (unfinished (goal.at.put_escaped-requires c).Else-to-stop) c.past_backslash-j.ensures t.pre.room
+    let x = (goal.at.put_escaped-requires c).After-put in
+    unit_room c.requires.plain (ran_here x) (omega (arith, to_stop x, c.if-to-stop.false)) c.past_backslash-j.ensures c.requires.room
 
 pub overflow_add-w : goal.overflow_add-w
 overflow_add-w c =
-    let t = Start (goal.at.overflow_add-w c).After-put in
-    omega (arith, (byte_inside (goal.at.overflow_add-w c).After-past_backslash-j).1, length-take-le t.args.end t.args.note.now t.pre.plain.within)
+    let x = (goal.at.overflow_add-w c).After-put in
+    let q = c.requires.plain in
+    omega (
+      arith,
+      (unit_inside q (ran_here x) (omega (arith, to_stop x, c.if-to-stop.false)) c.past_backslash-j.ensures).1,
+      length-take-le c.args.end c.args.note.now q.within,
+    )
 
 pub loop-w-smaller : goal.loop-w-smaller
 loop-w-smaller c =
-    omega (arith, (byte_inside (goal.at.loop-w-smaller c).After-past_backslash-j).0, (ends (goal.at.loop-w-smaller c).After-as_is_end-to).0, unfinished (goal.at.loop-w-smaller c).Else-to-stop)
+    let x = (goal.at.loop-w-smaller c).After-put in
+    omega (
+      arith,
+      (unit_inside c.requires.plain (ran_here x) (omega (arith, to_stop x, c.if-to-stop.false)) c.past_backslash-j.ensures).0,
+      (ends (goal.at.loop-w-smaller c).After-as_is_end-to).0,
+      to_stop x,
+    )
 
 pub loop-w-preserved : goal.loop-w-preserved
 loop-w-preserved c =
-    λ sheet q. unit_runs q (ran (goal.at.loop-w-preserved c).After-put sheet q) (unfinished (goal.at.loop-w-preserved c).Else-to-stop) c.past_backslash-j.ensures c.put_escaped.ensures
+    let x = (goal.at.loop-w-preserved c).After-put in
+    λ sheet q. unit_runs q (ran x sheet q) (omega (arith, to_stop x, c.if-to-stop.false)) c.past_backslash-j.ensures c.put_escaped.ensures
 
 pub shape_of-page : goal.shape_of-page
 shape_of-page c =
