@@ -8,4 +8,4 @@ overflow_cast-result c =
 
 pub returns : goal.returns
 returns c =
-    read_kept c.read-reading.ensures c.number-number.ensures c.value-value.ensures c.definitions_number.ensures c.spans_number.ensures c.text-text.ensures
+    read_kept c.read-reading.ensures c.number-number.ensures c.value-value.ensures c.definition_count-definition_count.ensures c.span_count-span_count.ensures c.text-text.ensures

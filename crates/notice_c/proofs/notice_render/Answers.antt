@@ -12,7 +12,7 @@ returns c =
     c.render-rendering.ensures
     c.number-number.ensures
     c.value-value.ensures
-    c.definitions_number.ensures
-    c.spans_number.ensures
+    c.definition_count-definition_count.ensures
+    c.span_count-span_count.ensures
     c.page_length-page_length.ensures
     c.text-text.ensures

@@ -18,9 +18,9 @@ render_rows-requires c =
     let m = c.read_listed-read.ensures.promise in
     let e = c.in-Read.is in
     let p = c.args.page.now in record {
-        spanned = spanned p m e;
-        listing = listing p m e;
-        remembers = c.read_listed-read.ensures.remembers (ap number_of e);
+      spanned = spanned p m e;
+      listing = listing p m e;
+      remembers = c.read_listed-read.ensures.remembers (ap number_of e);
     }
 
 pub returns-in-Long : goal.returns-in-Long
