@@ -9,9 +9,9 @@ loop-k-init c = none_before (texts c.args.note.now c.args.sheet.now) c.requires.
 
 pub row_conflicts-requires : goal.row_conflicts-requires
 row_conflicts-requires c = record {
-        listing = c.requires.listing;
-        k_in_bounds = omega (arith, c.loop-k-test.true, c.requires.count_value);
-    }
+  listing = c.requires.listing;
+  k_in_bounds = omega (arith, c.loop-k-test.true, c.requires.count_value);
+}
 
 pub returns-then-row_conflicts : goal.returns-then-row_conflicts
 returns-then-row_conflicts c = found_here (texts c.args.note.now c.args.sheet.now) c.loop-k.invariant c.loop-k-test.true c.row_conflicts.ensures c.if-row_conflicts.true

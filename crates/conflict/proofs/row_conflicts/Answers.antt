@@ -15,10 +15,10 @@ rows_differ-requires c =
     let h = c.requires.k_in_bounds in
     let found = looked_up_lem l h c.lookup.ensures c.part_of-label.ensures c.text_at-text.ensures c.definition_at-d.ensures c.in-At.is in
     let j = earlier l h found in record {
-        j_bound = row_there l (omega (arith, j, h));
-        k_bound = row_there l h;
-        parts_within = row_parts l (omega (arith, j, h));
-        parts_within_2 = row_parts l h;
+      j_bound = row_there l (omega (arith, j, h));
+      k_bound = row_there l h;
+      parts_within = row_parts l (omega (arith, j, h));
+      parts_within_2 = row_parts l h;
     }
 
 pub returns-in-At : goal.returns-in-At

@@ -9,11 +9,11 @@ loop-p-init c = (omega arith, none_yet _ _ _)
 pub least-best-requires : goal.least-best-requires
 least-best-requires c =
     let r = c.requires in record {
-        listing = r.listing;
-        count_value = r.count_value;
-        holds = r.holds;
-        p_lt_count = c.loop-p-test.true;
-        least = c.loop-p.invariant.1;
+      listing = r.listing;
+      count_value = r.count_value;
+      holds = r.holds;
+      p_lt_count = c.loop-p-test.true;
+      least = c.loop-p.invariant.1;
     }
 
 pub overflow_add-p : goal.overflow_add-p

@@ -8,11 +8,11 @@ returns-then-best-k c = next_more _ _ _ c.requires.least c.row_in-k.ensures c.if
 pub row_conflicts-requires : goal.row_conflicts-requires
 row_conflicts-requires c =
     let r = c.requires in record {
-        listing = r.listing;
-        count_value = r.count_value;
-        holds = r.holds;
-        p_lt_count = r.p_lt_count;
-        k_value = c.row_in-k.ensures;
+      listing = r.listing;
+      count_value = r.count_value;
+      holds = r.holds;
+      p_lt_count = r.p_lt_count;
+      k_value = c.row_in-k.ensures;
     }
 
 pub returns-then-row_conflicts : goal.returns-then-row_conflicts

@@ -7,9 +7,9 @@ use Rattle.repeats.proofs.row_conflicts.Goals as goal
 
 pub is_new-requires : goal.is_new-requires
 is_new-requires c = record {
-        sorted = c.requires.holds.sorted;
-        p_lt_count = c.requires.p_lt_count;
-    }
+  sorted = c.requires.holds.sorted;
+  p_lt_count = c.requires.p_lt_count;
+}
 
 pub returns-then-is_new : goal.returns-then-is_new
 returns-then-is_new c =
@@ -19,15 +19,15 @@ returns-then-is_new c =
 pub label_at-label-requires : goal.label_at-label-requires
 label_at-label-requires c =
     let r = c.requires in record {
-        at_in_bounds = (label_there (rows_fit r.listing (omega (arith, r.count_value))) c.args.k (row_there r.listing r.count_value r.holds r.p_lt_count r.k_value)).0;
-        within = (label_there (rows_fit r.listing (omega (arith, r.count_value))) c.args.k (row_there r.listing r.count_value r.holds r.p_lt_count r.k_value)).1;
+      at_in_bounds = (label_there (rows_fit r.listing (omega (arith, r.count_value))) c.args.k (row_there r.listing r.count_value r.holds r.p_lt_count r.k_value)).0;
+      within = (label_there (rows_fit r.listing (omega (arith, r.count_value))) c.args.k (row_there r.listing r.count_value r.holds r.p_lt_count r.k_value)).1;
     }
 
 pub lookup-requires : goal.lookup-requires
 lookup-requires c =
     let r = c.requires in record {
-        fit = rows_fit r.listing (omega (arith, r.count_value));
-        holds = r.holds;
+      fit = rows_fit r.listing (omega (arith, r.count_value));
+      holds = r.holds;
     }
 
 pub returns-in_default : goal.returns-in_default
@@ -43,10 +43,10 @@ returns-then-k-j c =
 pub rows_differ-requires : goal.rows_differ-requires
 rows_differ-requires c =
     let r = c.requires in record {
-        j_bound = (both_there r.listing r.count_value r.holds r.p_lt_count r.k_value c.if-k-j.false).0;
-        k_bound = (both_there r.listing r.count_value r.holds r.p_lt_count r.k_value c.if-k-j.false).1.0;
-        parts_within = (both_there r.listing r.count_value r.holds r.p_lt_count r.k_value c.if-k-j.false).1.1.0;
-        parts_within_2 = (both_there r.listing r.count_value r.holds r.p_lt_count r.k_value c.if-k-j.false).1.1.1;
+      j_bound = (both_there r.listing r.count_value r.holds r.p_lt_count r.k_value c.if-k-j.false).0;
+      k_bound = (both_there r.listing r.count_value r.holds r.p_lt_count r.k_value c.if-k-j.false).1.0;
+      parts_within = (both_there r.listing r.count_value r.holds r.p_lt_count r.k_value c.if-k-j.false).1.1.0;
+      parts_within_2 = (both_there r.listing r.count_value r.holds r.p_lt_count r.k_value c.if-k-j.false).1.1.1;
     }
 
 pub returns : goal.returns

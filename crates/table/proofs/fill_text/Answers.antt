@@ -23,9 +23,9 @@ line_of-line-requires c =
     let f = c.loop-d.invariant in
     let i = c.next_item.ensures in
     let e = c.in-Definition.is in record {
-        le_start = bracket_there _ _ _ _ _ f i e;
-        before = line_before _ _ _ _ _ f i e;
-        d_in_bounds = bracket_inside _ _ _ _ _ f i e;
+      le_start = bracket_there _ _ _ _ _ f i e;
+      before = line_before _ _ _ _ _ f i e;
+      d_in_bounds = bracket_inside _ _ _ _ _ f i e;
     }
 
 pub store-requires : goal.store-requires
@@ -34,9 +34,9 @@ store-requires c =
     let i = c.next_item.ensures in
     let e = c.in-Definition.is in
     let p = c.requires in record {
-        text_bound = p.text_bound;
-        small = small _ _ _ _ _ f i e p.s_len_bound;
-        line_bound = line_small _ _ _ _ _ f i e c.line_of-line.ensures p.s_len_bound;
+      text_bound = p.text_bound;
+      small = small _ _ _ _ _ f i e p.s_len_bound;
+      line_bound = line_small _ _ _ _ _ f i e c.line_of-line.ensures p.s_len_bound;
     }
 
 pub overflow_add-next : goal.overflow_add-next
@@ -70,9 +70,9 @@ remember-requires c =
     let f = c.loop-d.invariant in
     let i = c.next_item.ensures in
     let e = c.in-Paragraph.is in record {
-        k_bound = (paragraph_small _ _ _ _ _ f i e c.requires.s_len_bound).0;
-        start_bound = (paragraph_small _ _ _ _ _ f i e c.requires.s_len_bound).1.0;
-        end_bound = (paragraph_small _ _ _ _ _ f i e c.requires.s_len_bound).1.1;
+      k_bound = (paragraph_small _ _ _ _ _ f i e c.requires.s_len_bound).0;
+      start_bound = (paragraph_small _ _ _ _ _ f i e c.requires.s_len_bound).1.0;
+      end_bound = (paragraph_small _ _ _ _ _ f i e c.requires.s_len_bound).1.1;
     }
 
 pub overflow_add-paragraphs : goal.overflow_add-paragraphs

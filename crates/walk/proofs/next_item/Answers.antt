@@ -10,9 +10,9 @@ pub item_here-requires-2 : goal.item_here-requires-2
 item_here-requires-2 c =
     let f = c.next_block.ensures in
     let e = c.in-At.is in record {
-        standing = found_stands c.args.note.now c.args.c c.requires.standing (omega arith) f e;
-        line_ends = found_lined c.args.note.now c.args.c c.requires.standing (omega arith) f e;
-        at_lt_end = found_before c.args.note.now c.args.c c.requires.standing (omega arith) f e;
+      standing = found_stands c.args.note.now c.args.c c.requires.standing (omega arith) f e;
+      line_ends = found_lined c.args.note.now c.args.c c.requires.standing (omega arith) f e;
+      at_lt_end = found_before c.args.note.now c.args.c c.requires.standing (omega arith) f e;
     }
 
 pub returns : goal.returns
