@@ -64,7 +64,7 @@
  *
  * Stack: a call takes less than 272 KiB for itself, and notice_render less than 328 KiB, whatever the texts (272,792 bytes at most
  * for notice_read, 330,248 for notice_render, 3,544 for notice_resolve, 3,160 for notice_same_label). Of notice_read's and
- * notice_render's 65,538 are the list of the note's paragraphs, 51,884 an index of over 256 definitions, and up to 87,376 more are
+ * notice_render's 65,538 are the list of the note's paragraphs, 51,884 an index of over 256 definitions, and up to 65,532 more are
  * taken while it is built; a note of at most 4,096 bytes and a few definitions takes less. 65,536 of notice_render's are the table of
  * the places where links, images and code spans start, and 2,656 of each entry's the table of folding. It was measured on the notes of
  * the benchmark, beside their sheets and as their own sheets, by running each entry on a stack that was marked before; the library's
@@ -78,7 +78,7 @@
  * before there was an index, which it does not use. The search counts 150 ns a byte, 5 ms for the longest note, as the most that a call
  * may take.
  *
- * Lookup is no exception: where a call looks up over eight labels among over 16 definitions, it builds an index of them once, in which
+ * Lookup is no exception: where a call looks up over three labels among over 16 definitions, it builds an index of them once, in which
  * a label is found by its key and a search by halves. 500 definitions and as many references to them as fit took 0.4 ms. Texts of
  * up to 10,922 definitions, the most that two can have, with labels chosen to be slow, as with one key for all, took at most some 110
  * ns a byte of the two texts. With release yes each definition is looked up too, by the index: definitions alone took at most
