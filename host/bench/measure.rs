@@ -14,8 +14,9 @@ pub struct Rounds {
 
 const LEAST_ROUNDS: usize = 5;
 const LONGEST: Duration = Duration::from_secs(3);
-/// How often times are taken at most.
-const MOST_TRIES: usize = 8;
+/// How often times are taken at most, and how long is waited before they are taken again.
+const MOST_TRIES: usize = 64;
+const PAUSE: Duration = Duration::from_millis(50);
 
 /// Something to be timed: it makes so many calls.
 pub struct Candidate<'c> {
@@ -92,6 +93,7 @@ pub fn best_of_tries<const COUNT: usize>(
         if good(best) {
             break;
         }
+        std::thread::sleep(PAUSE);
     }
     best
 }
