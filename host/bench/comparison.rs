@@ -6,13 +6,10 @@ use std::time::Duration;
 use host::entries;
 use host::generate::long_labels::{Letters, LongLabels};
 
-use crate::measure::{best_of_tries, best_times, Candidate, Rounds, MOST_TRIES};
+use crate::measure::{best_of_tries, best_times, Candidate, Rounds};
 
 /// The most that two labels that differ in the first character may take, in times of two equal ones.
 pub const MOST: f64 = 0.1;
-
-/// How often these times are taken at most: the labels with 100 leading blanks come within a twentieth of the most on a quiet machine.
-const PATIENT_TRIES: usize = 64;
 
 /// Short batches, and many: on a busy machine some of them are not disturbed.
 const ROUNDS: Rounds = Rounds {
@@ -28,7 +25,6 @@ impl Times {
     /// They are taken again where the ratio is over this.
     pub fn of(labels: &LongLabels, most: f64) -> Times {
         Times(best_of_tries(
-            PATIENT_TRIES,
             || times(labels),
             |times| Times(times).ratio() <= most,
         ))
@@ -77,7 +73,6 @@ impl TimesInLetters {
     pub fn of(labels: &[Letters; 5]) -> TimesInLetters {
         let pairs = || std::array::from_fn(|at| (&*labels[at].one, &*labels[at].other));
         TimesInLetters(best_of_tries(
-            MOST_TRIES,
             || times_of(pairs()),
             |times| TimesInLetters(times).are_good(),
         ))

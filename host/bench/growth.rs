@@ -6,7 +6,7 @@ use std::process::ExitCode;
 use host::generate::bench_notes::{self, BenchNote};
 use host::second::LONGEST_NOTE;
 
-use crate::measure::{best_of_tries, best_times, Candidate, MOST_TRIES};
+use crate::measure::{best_of_tries, best_times, Candidate};
 use crate::ours::Lent;
 use crate::ROUNDS;
 
@@ -55,12 +55,8 @@ fn growth(notes: [&BenchNote; 3]) -> [f64; 4] {
     let lent = notes.map(Lent::for_note);
     let most = most(notes[0]);
     let good = |times: [f64; 3]| steps(times).iter().all(|step| *step <= most);
-    let reader = best_of_tries(MOST_TRIES, || times(notes, lent.clone(), Lent::read), good);
-    let page_writer = best_of_tries(
-        MOST_TRIES,
-        || times(notes, lent.clone(), Lent::render),
-        good,
-    );
+    let reader = best_of_tries(|| times(notes, lent.clone(), Lent::read), good);
+    let page_writer = best_of_tries(|| times(notes, lent.clone(), Lent::render), good);
     let [first, second] = steps(reader);
     let [third, fourth] = steps(page_writer);
     [first, second, third, fourth]

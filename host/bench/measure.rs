@@ -14,8 +14,9 @@ pub struct Rounds {
 
 const LEAST_ROUNDS: usize = 5;
 const LONGEST: Duration = Duration::from_secs(3);
-/// How often times are taken at most.
-pub const MOST_TRIES: usize = 8;
+/// How often times are taken at most, and how long is waited before they are taken again.
+const MOST_TRIES: usize = 64;
+const PAUSE: Duration = Duration::from_millis(50);
 
 /// Something to be timed: it makes so many calls.
 pub struct Candidate<'c> {
@@ -82,17 +83,17 @@ pub fn best_times<const COUNT: usize>(
 /// The best times of a few tries: another one is made where they are not good, since a busy machine may
 /// have slowed one of them alone.
 pub fn best_of_tries<const COUNT: usize>(
-    tries: usize,
     measure: impl Fn() -> [f64; COUNT],
     good: impl Fn([f64; COUNT]) -> bool,
 ) -> [f64; COUNT] {
     let mut best = [f64::INFINITY; COUNT];
-    for _ in 0..tries {
+    for _ in 0..MOST_TRIES {
         let times = measure();
         best = std::array::from_fn(|place| best[place].min(times[place]));
         if good(best) {
             break;
         }
+        std::thread::sleep(PAUSE);
     }
     best
 }

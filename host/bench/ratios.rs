@@ -5,7 +5,7 @@ use std::process::ExitCode;
 use host::generate::bench_notes::{self, BenchNote};
 use host::quick;
 
-use crate::measure::{best_of_tries, best_times, Candidate, MOST_TRIES};
+use crate::measure::{best_of_tries, best_times, Candidate};
 use crate::ours::Lent;
 use crate::ROUNDS;
 
@@ -45,7 +45,7 @@ fn named(name: &str) -> BenchNote {
 
 /// Prints two times and their ratio; whether that is at most so much.
 fn judge(what: &str, most: f64, measure: impl Fn() -> [f64; 2]) -> bool {
-    let [one, other] = best_of_tries(MOST_TRIES, measure, |[one, other]| one / other <= most);
+    let [one, other] = best_of_tries(measure, |[one, other]| one / other <= most);
     let ratio = one / other;
     println!("| {what} | {one:.0} | {other:.0} | {ratio:.2} | {most} |");
     ratio <= most
