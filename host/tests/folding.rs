@@ -8,7 +8,7 @@ use host::case_folding::{self, Row, END};
 /// The law's table and its short list, and the code's table.
 const LAW: &str = "casefold/specs/Table.antt";
 const SHORT_LIST: &str = "casefold/specs/Fold.antt";
-const CODE: &str = "folding/src/table.rt";
+const CODE: &str = "folding/src/entries.rt";
 
 /// "one table of 1,328 entries, U+0000 to U+052F".
 const ENTRIES: usize = 1_328;

@@ -1,30 +1,15 @@
--- Runs of blanks: the strides in a long one, and one that ends at once.
-use Prim.Native.Nat.{ℕ, ◌+◌, ◌≤◌, ◌<◌}
-use native.Mathlib.Omega.{arith}
+-- A run of blanks that ends at once.
+use Prim.Native.Nat.{ℕ, ◌+◌, ◌<◌}
 use mathlib.Core.Path.{◌≡◌, refl, sym, ap, ◌∙◌}
-use mathlib.Core.Bool.{Bool, true, false, true≢false, not, ◌||◌}
+use mathlib.Core.Bool.{Bool, true, false, true≢false, not}
 use mathlib.Core.List.{List}
-use borrow.Author.Tests.{leb-true, ltb-true, ltb-false, not-true, not-false}
+use borrow.Author.Tests.{ltb-true, ltb-false, not-true, not-false}
 use lib.ListN.{length, get_or}
-use lib.Dec.{leb, ltb}
+use lib.Dec.{ltb}
 use Rattle.scan.specs.Byte.{blank}
-use Rattle.scan.specs.Reading.{past, clear, past_strides}
-use Rattle.scan.proofs.Test.{by, and_left}
-use Rattle.scan.proofs.Below.{at}
+use Rattle.scan.specs.Reading.{past}
+use Rattle.scan.proofs.Test.{by}
 use Rattle.scan.proofs.Scan.{peek_inside, past_on, past_stop, past_end}
-use Rattle.scan.proofs.Strides.{past_through}
-
-abbrev strided : ℕ → Bool
-strided b = clear 32 0 8 11 31 31 b
-
--- one test computed over the bytes up to 32
-stride_blank : (b : ℕ) → strided b ≡ true → blank b ≡ true
-stride_blank b e =
-    let low : b ≤ 32 = leb-true b 32 (and_left (leb b 32) _ e) in
-    rw e at (at (λ (k : ℕ). not (strided k) || blank k) 33 refl b (omega arith))
-
-pub blank_strides : (s : List ℕ) (at : ℕ) {i : ℕ} → i ≡ past_strides strided s at → past blank s i ≡ past blank s at
-blank_strides = past_through strided blank stride_blank
 
 -- ---- p and q are what the calls for the bytes b and d at i and after it answered
 module _ (s : List ℕ) (i : ℕ) where

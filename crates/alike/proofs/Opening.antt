@@ -1,10 +1,11 @@
 -- What the character at a place gives: its first byte, and the bytes of it that are left.
 use Prim.Native.Nat.{ℕ, zero, suc, ◌+◌, ◌/◌, ◌%◌, ◌^◌, ◌<◌}
-use native.Mathlib.Nat.{div-lt_iff_lt-mul, pow-suc, mod-lt}
+use native.Mathlib.Nat.{div-lt_iff_lt-mul, pow-suc}
 use native.Mathlib.Omega.{arith}
 use mathlib.Core.Path.{◌≡◌, refl, sym, ap, ◌∙◌}
 use mathlib.Core.List.{List, [], ◌∷◌, ◌++◌}
-use mathlib.Core.Bool.{Bool, true, false, true≢false}
+use mathlib.Core.Bool.{true, false, true≢false, cond}
+use Rattle.std.specs.Prelude.{Option, Some, None}
 use borrow.Author.Tests.{eq-eqb, ne_eqb}
 use lib.ListN.{length, get_or, drop}
 use lib.Dec.{eqb}
@@ -38,20 +39,18 @@ pub unpacked_0 : unpacked 0 ≡ []
 unfolding unpack
 unpacked_0 = refl
 
-pub byte_of : (n : ℕ) → n % 256 < 256
-byte_of n = mod-lt n (omega arith)
+-- ---- b and x are the bytes at p and after it, they may be a character of the table
+module _ (s : List ℕ) (p : ℕ) (h : p < length s) (ink : blank (get_or s p 0) ≡ false) {b x : ℕ} (eb : b ≡ get_or s p 0) (ex : x ≡ get_or s (p + 1) 0) where
+  module _ (none : None ≡ cond (pair b x) (Some (code_of b x)) None) where
+    is_none : pair b x ≡ false
+    is_none = by (pair b x) (λ e. let k : None ≡ Some (code_of b x) = none ∙ rw e refl in grind (arith, k)) (λ e. e)
 
--- ---- b and x are the bytes at p and after it, v is whether they are a character of the table
-module _ (s : List ℕ) (p : ℕ) (h : p < length s) (ink : blank (get_or s p 0) ≡ false) {b x : ℕ} {v : Bool} (eb : b ≡ get_or s p 0) (ex : x ≡ get_or s (p + 1) 0) (ev : v ≡ pair b x) where
-  pub opens_one : v ≡ false → {y : ℕ} → y ≡ lower b → y < 256 → Opens s p y (p + 1) 0
-  opens_one f {y} ey l =
-      let n : pair (get_or s p 0) (get_or s (p + 1) 0) ≡ false = rw (← eb, ← ex) (sym ev ∙ f) in
-      record { opens = word_one s p h ink n ∙ rw (unpacked_0, ey, eb) refl; small = l }
+    pub opens_one : {y : ℕ} → y ≡ lower b → Opens s p y (p + 1) 0
+    opens_one {y} ey =
+        let n : pair (get_or s p 0) (get_or s (p + 1) 0) ≡ false = rw (← eb, ← ex) is_none in
+        record { opens = word_one s p h ink n ∙ rw (unpacked_0, ey, eb) refl }
 
-  module _ (t : v ≡ true) where
-    is_pair : pair b x ≡ true
-    is_pair = sym ev ∙ t
-
+  module _ (is_pair : pair b x ≡ true) where
     pub pair_inside : p + 1 < length s
     pair_inside = peek_inside s (p + 1) (λ q. let k = pair_bounds b x is_pair in omega arith)
 
@@ -66,10 +65,20 @@ module _ (s : List ℕ) (p : ℕ) (h : p < length s) (ink : blank (get_or s p 0)
         let n : [] ≡ expand (code_of b x) = sym unpacked_0 ∙ (rw q at e) in
         true≢false (sym (rw (← n) at (expand_headed (code_of b x) (code_low b x is_pair) (code_high b x is_pair))))
 
-    pub opens_pair : {k f : ℕ} → k ≡ code_of b x → f ≡ word_of k → f < 2 ^ 64 → Opens s p (f % 256) (p + 2) (f / 256)
-    opens_pair {k} {f} ek ef l =
+    opens_code : {k f : ℕ} → k ≡ code_of b x → f ≡ word_of k → f < 2 ^ 64 → Opens s p (f % 256) (p + 2) (f / 256)
+    opens_code {k} {f} ek ef l =
         let e : unpacked f ≡ expand (code_of b x) = ap unpacked (ef ∙ ap word_of ek) ∙ word_right (code_of b x) (code_low b x is_pair) (code_high b x is_pair) in
         record {
           opens = word_pair ∙ ap (λ (m : List ℕ). m ++ form_from s (p + 2)) (sym e ∙ unpack_next f (nonzero f e) l);
-          small = byte_of f;
         }
+
+  -- c is the character that they are
+  module _ {c : ℕ} (some : Some c ≡ cond (pair b x) (Some (code_of b x)) None) where
+    found : (pair b x ≡ true) × (c ≡ code_of b x)
+    found =
+        by (pair b x)
+        (λ e. let k : Some c ≡ Some (code_of b x) = some ∙ rw e refl in (e, grind (arith, k)))
+        (λ e. let k : ◌≡◌ {A = Option ℕ} (Some c) None = some ∙ rw e refl in absurd (grind (arith, k)))
+
+    pub opens_pair : {f : ℕ} → f ≡ word_of c → f < 2 ^ 64 → Opens s p (f % 256) (p + 2) (f / 256)
+    opens_pair ef l = opens_code found.0 found.1 ef l

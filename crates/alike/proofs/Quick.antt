@@ -46,7 +46,7 @@ unlike_first a b {x} {y} ex ey ev h =
     let kx : plain last_ascii x ≡ true = and_left _ (plain last_ascii y) i in
     let ky : plain last_ascii y ≡ true = and_right (plain last_ascii x) _ i in
     let n : apart a b 0 0 0 0 x y ≡ true = simp (lows x y kx ky, f) in
-    sym (differ a b 0 0 0 0 (past_here last_ascii a 0 (rw (← ex) kx)) (past_here last_ascii b 0 (rw (← ey) ky)) x y ex ey (sym n) (begins a b) refl)
+    sym (differ a b 0 0 0 0 (past_here last_ascii a 0 (rw (← ex) kx)) (past_here last_ascii b 0 (rw (← ey) ky)) (rw (← ex, ← ey) (sym n)) (begins a b) refl)
 
 -- ---- one and the same byte
 module _ (m : ℕ) (a b : List ℕ) (i j : ℕ) {v : Bool} (ev : v ≡ same m a b i j) (h : v ≡ true) where

@@ -41,7 +41,7 @@ module _ (s : List ℕ) (i : ℕ) (h : i < length s) (ink : blank (get_or s i 0)
 
   module _ (p : pair (get_or s i 0) (get_or s (i + 1) 0) ≡ true) where
     form_two : form_from s i ≡ expand (code_of (get_or s i 0) (get_or s (i + 1) 0)) ++ form_from s (i + 2)
-    form_two = form_here ∙ word_pair s i h ink refl refl refl p
+    form_two = form_here ∙ word_pair s i h ink refl refl p
 
     -- the form from the second byte of a character on
     form_second : form_from s (i + 1) ≡ (lower (get_or s (i + 1) 0) ∷ []) ++ form_from s (i + 2)
@@ -50,7 +50,7 @@ module _ (s : List ℕ) (i : ℕ) (h : i < length s) (ink : blank (get_or s i 0)
         let m = second_high (get_or s i 0) (get_or s (i + 1) 0) p in
         let b : blank (get_or s (i + 1) 0) ≡ false = simp (ne_eqb (get_or s (i + 1) 0) 32 (λ q. omega arith), ne_eqb (get_or s (i + 1) 0) 9 (λ q. omega arith), ne_eqb (get_or s (i + 1) 0) 10 (λ q. omega arith)) in
         let two : i + 1 + 1 ≡ i + 2 = omega arith in
-        rw two at (next s (i + 1) (pair_inside s i h ink refl refl refl p) b (low_alone (get_or s (i + 1) 0) (get_or s (i + 1 + 1) 0) (omega arith)))
+        rw two at (next s (i + 1) (pair_inside s i h ink refl refl p) b (low_alone (get_or s (i + 1) 0) (get_or s (i + 1 + 1) 0) (omega arith)))
       where
         next : (t : List ℕ) (j : ℕ) → j < length t → blank (get_or t j 0) ≡ false → pair (get_or t j 0) (get_or t (j + 1) 0) ≡ false → form_from t j ≡ (lower (get_or t j 0) ∷ []) ++ form_from t (j + 1)
         next t j l b n = form_word t j j (past_stop blank t j refl l refl b) l ∙ word_one t j l b n
@@ -175,26 +175,28 @@ pub run_right : (a b : List ℕ) (i j n m : ℕ) → Passed a b i j n → j ≤ 
 run_right a b i j n m p h k = by (eqb n 0) (λ e. let z = eqb-true n 0 e in omega arith) (λ e. let f = p.right_fits (positive n (eqb-false n 0 e)) in omega arith)
 
 -- ---- what both labels share from the first characters past the blanks on
-module _ (a b : List ℕ) (p q x y : ℕ) (m : Meets a b p q x y) where
+module _ (a b : List ℕ) (p q : ℕ) (m : Meets a b p q) where
   -- beyond ASCII: a run of bytes
-  pub shared_run : {n : ℕ} → Passed a b p q n → Shared a b p q n
-  shared_run s = record {
-    alike = λ o. rw (← form_here a p m.left_inside m.left_ink, ← form_here b q m.right_inside m.right_ink) s.alike;
-    left_fits = s.left_fits;
-    right_fits = s.right_fits;
+  pub shared_run : {n : ℕ} → Passed a b p q n → (n ≡ 0 → ⊥) → Shared a b p q n
+  shared_run {n} s z = record {
+    some = positive n z;
+    alike = rw (← form_here a p m.left_inside m.left_ink, ← form_here b q m.right_inside m.right_ink) s.alike;
+    left_fits = s.left_fits (positive n z);
+    right_fits = s.right_fits (positive n z);
   }
 
   -- in ASCII: a byte that is alike when folded, and those that follow
-  pub shared_ascii : beyond x y ≡ false → {n : ℕ} → SameCount last_ascii a b (p + 1) (q + 1) n → Shared a b p q (1 + n)
+  pub shared_ascii : beyond (get_or a p 0) (get_or b q 0) ≡ false → {n : ℕ} → SameCount last_ascii a b (p + 1) (q + 1) n → Shared a b p q (1 + n)
   shared_ascii low {n} c =
       let u : p + (1 + n) ≡ p + 1 + n = omega arith in
       let v : q + (1 + n) ≡ q + 1 + n = omega arith in
       let h = m.left_inside in
       let k = m.right_inside in
       record {
-        alike = λ o. rw (u, v) (ascii_alike a b p q x y m.left m.right h k m.left_ink m.right_ink low (m.alike low) ∙ sym (count_on a b (p + 1) (q + 1) c refl));
-        left_fits = λ o. rw u (count_left last_ascii a b (p + 1) (q + 1) c (omega arith));
-        right_fits = λ o. rw v (count_right last_ascii a b (p + 1) (q + 1) c (omega arith));
+        some = omega arith;
+        alike = rw (u, v) (ascii_alike a b p q (get_or a p 0) (get_or b q 0) refl refl h k m.left_ink m.right_ink low (m.alike low) ∙ sym (count_on a b (p + 1) (q + 1) c refl));
+        left_fits = rw u (count_left last_ascii a b (p + 1) (q + 1) c (omega arith));
+        right_fits = rw v (count_right last_ascii a b (p + 1) (q + 1) c (omega arith));
       }
 
 -- ---- a turn with the table: the words at p and q were opened

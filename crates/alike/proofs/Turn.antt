@@ -128,8 +128,14 @@ module _ (a b : List ℕ) (i j p q : ℕ) (ep : p ≡ past blank a i) (eq : q �
     pub word_on : v ≡ true → p < length a → equals (word_from a p) (word_from b q) ≡ r
     word_on h k = sym (rw (← ev, h, lt-leb (length a) p k) at turn) ∙ inv
 
-  -- v is the answer of `apart`
-  module _ (x y : ℕ) {v : Bool} (ex : x ≡ get_or a p 0) (ey : y ≡ get_or b q 0) (ev : v ≡ apart a b i j p q x y) where
+  -- v is the answer of `apart` at the bytes there
+  abbrev x : ℕ
+  x = get_or a p 0
+
+  abbrev y : ℕ
+  y = get_or b q 0
+
+  module _ {v : Bool} (ev : v ≡ apart a b i j p q x y) where
     -- ASCII bytes that are unlike decide where the labels are level
     unlike_level : {r : Bool} → level a b i j p q ≡ true → (not (beyond x y) && not (eqb (lower x) (lower y))) ≡ true → equals (form_from a i) (form_from b j) ≡ r → false ≡ r
     unlike_level l u inv =
@@ -138,11 +144,11 @@ module _ (a b : List ℕ) (i j p q : ℕ) (ep : p ≡ past blank a i) (eq : q �
         by (leb (length a) p)
         (λ e.
         let f : length b ≤ q = level_ends a b i j p q refl l (leb-true (length a) p e) in
-        absurd (n (ap lower (ex ∙ get_or-eq_default a 0 (leb-true (length a) p e) ∙ sym (ey ∙ get_or-eq_default b 0 f)))))
+        absurd (n (ap lower (get_or-eq_default a 0 (leb-true (length a) p e) ∙ sym (get_or-eq_default b 0 f)))))
         (λ e.
         let h = leb-false (length a) p e in
         let k = level_inside a b i j p q refl l h in
-        sym (ascii_unlike a b p q x y ex ey h k (ink_at a i p ep h) (ink_at b j q eq k) low n) ∙ word_on refl inv l h)
+        sym (ascii_unlike a b p q x y refl refl h k (ink_at a i p ep h) (ink_at b j q eq k) low n) ∙ word_on refl inv l h)
 
     pub differ : {r : Bool} → equals (form_from a i) (form_from b j) ≡ r → v ≡ true → false ≡ r
     unfolding apart
@@ -165,10 +171,8 @@ module _ (a b : List ℕ) (i j p q : ℕ) (ep : p ≡ past blank a i) (eq : q �
       pub both_over : {r : Bool} → equals (form_from a i) (form_from b j) ≡ r → length a ≤ p → true ≡ r
       both_over inv k = level_over refl inv levels k
 
-      pub meets : p < length a → Meets a b p q x y
+      pub meets : p < length a → Meets a b p q
       meets k = record {
-        left = ex;
-        right = ey;
         left_inside = k;
         right_inside = both_inside k;
         left_ink = ink_at a i p ep k;
@@ -176,5 +180,5 @@ module _ (a b : List ℕ) (i j p q : ℕ) (ep : p ≡ past blank a i) (eq : q �
         alike = λ low. eqb-true _ _ (not-false _ (rw low at close.0));
       }
 
-      pub shared_on : {r : Bool} → equals (form_from a i) (form_from b j) ≡ r → p < length a → {n : ℕ} → Shared a b p q n → 0 < n → equals (form_from a (p + n)) (form_from b (q + n)) ≡ r
-      shared_on inv k s o = sym (s.alike o) ∙ word_on refl inv levels k
+      pub shared_on : {r : Bool} → equals (form_from a i) (form_from b j) ≡ r → p < length a → {n : ℕ} → Shared a b p q n → equals (form_from a (p + n)) (form_from b (q + n)) ≡ r
+      shared_on inv k s = sym s.alike ∙ word_on refl inv levels k

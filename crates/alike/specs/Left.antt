@@ -1,5 +1,5 @@
 -- What is left of a compared form, and what single steps of reading it give.
-use Rattle.std.specs.Prelude.{ℕ, ◌+◌, ◌≤◌, ◌<◌, ◌≡◌, List, [], ◌∷◌, ◌++◌, Bool, true, false, length, get_or, drop, eqb}
+use Rattle.std.specs.Prelude.{ℕ, ◌+◌, ◌≤◌, ◌<◌, ◌≡◌, List, ◌∷◌, ◌++◌, Bool, false, length, get_or, drop, eqb}
 use Rattle.scan.specs.Byte.{within, blank}
 use Rattle.casefold.specs.Fold.{lower}
 use Rattle.folding.specs.Word.{unpacked}
@@ -18,14 +18,9 @@ word_from s p = squeeze (folds (drop p s)) false
 abbrev pub form : List ℕ → ℕ → ℕ → List ℕ
 form s i w = unpacked w ++ form_from s i
 
--- a byte and what follows it; 256 is the end
-unfoldable pub emit : ℕ → List ℕ → List ℕ
-emit b l = elim (eqb b 256) [ true ↦ [] | false ↦ b ∷ l ]
-
 -- the word at p starts with this byte; then come the bytes of `left`, and what s gives from `at` on
 pub record Opens (s : List ℕ) (p byte at left : ℕ) : Type 0 where
   pub opens : word_from s p ≡ byte ∷ form s at left
-  pub small : byte < 256
 
 -- a byte that begins a character of two bytes that the table may have
 abbrev pub leads : ℕ → Bool
@@ -38,18 +33,17 @@ pub record Passed (a b : List ℕ) (i j n : ℕ) : Type 0 where
   pub left_fits : 0 < n → i + n ≤ length a
   pub right_fits : 0 < n → j + n ≤ length b
 
--- x and y stand in a at p and in b at q, no blanks, and are alike when folded if both are ASCII
-pub record Meets (a b : List ℕ) (p q x y : ℕ) : Type 0 where
-  pub left : x ≡ get_or a p 0
-  pub right : y ≡ get_or b q 0
+-- a byte stands in a at p and one in b at q, no blanks, and they are alike when folded if both are ASCII
+pub record Meets (a b : List ℕ) (p q : ℕ) : Type 0 where
   pub left_inside : p < length a
   pub right_inside : q < length b
   pub left_ink : blank (get_or a p 0) ≡ false
   pub right_ink : blank (get_or b q 0) ≡ false
-  pub alike : beyond x y ≡ false → lower x ≡ lower y
+  pub alike : beyond (get_or a p 0) (get_or b q 0) ≡ false → lower (get_or a p 0) ≡ lower (get_or b q 0)
 
--- n bytes on, the words at p and q compare as from their starts. 0 says nothing.
+-- n bytes on, the words at p and q compare as from their starts
 pub record Shared (a b : List ℕ) (p q n : ℕ) : Type 0 where
-  pub alike : 0 < n → equals (word_from a p) (word_from b q) ≡ equals (form_from a (p + n)) (form_from b (q + n))
-  pub left_fits : 0 < n → p + n ≤ length a
-  pub right_fits : 0 < n → q + n ≤ length b
+  pub some : 0 < n
+  pub alike : equals (word_from a p) (word_from b q) ≡ equals (form_from a (p + n)) (form_from b (q + n))
+  pub left_fits : p + n ≤ length a
+  pub right_fits : q + n ≤ length b

@@ -1,36 +1,35 @@
 // Whether two link labels are equal, and the steps that tell it: both labels are read in step, with no copy, up to the first difference.
 // ASCII, and characters that are the same bytes, need no table. From the first other character on the table tells what each folds to: it is
-// lent, since a constant array is built anew at each use. Two loops go over the steps without it: the lookup's (row::lookup_bytes), and
-// the one of `same_label`.
+// lent, since it is built anew at each use.
 #![tactic(auto)]
 
-ghost use Rattle.std.specs.Prelude.{◌≡◌, false, ◌<◌, length, get_or};
+ghost use Rattle.std.specs.Prelude.{◌≡◌, false, ◌<◌, length, get_or, leb, IfSome};
+ghost use Rattle.std.specs.Iterator.{YieldsFirst, item_count};
 ghost use Rattle.scan.specs.Byte.{blank};
 ghost use Rattle.scan.specs.Reading.{past};
-ghost use Rattle.casefold.specs.Table.{table};
 ghost use Rattle.matching.specs.Reading.{equals, matches};
 ghost use Rattle.alike.specs.Reading.{gap, level, beyond, apart, unlike, same, SameCount};
-ghost use Rattle.alike.specs.Left.{form_from, form, emit, Opens, leads, Passed, Meets, Shared};
+ghost use Rattle.alike.specs.Left.{form_from, form, Opens, leads, Passed, Meets, Shared};
+
+use folding::Table;
+use scan::Class;
 
 // The last byte that is ASCII.
 pub const ASCII: u8 = 127;
 
-// The first place from `at` on where no blank stands; the end is one. Long runs are passed by strides.
-fn past_run(s: &[u8], at: usize) -> usize
-    ensures { result ≡ past blank s.now at }
-{
-    let mut i = scan::past_strides(s, at, 32, 0, 8, 11, 31, 31);
-    while i < s.len() {
-        let b = s[i];
-        if !scan::is_blank(b) {
-            return i;
-        }
-        i += 1;
+// Space, tab and LF.
+struct Blank;
+
+impl Class<u8> for Blank {
+    ghost has = { λ _ b. blank b };
+
+    fn holds(&self, b: u8) -> bool {
+        scan::is_blank(b)
     }
-    i
 }
 
-// The same. Where one blank stands alone or none, no strides are tried.
+// The first place from `at` on where no blank stands; the end is one. Most runs have one blank or none, and two tests tell these quicker
+// than `scan::past_after` does.
 pub fn past_blanks(s: &[u8], at: usize) -> usize
     ensures { result ≡ past blank s.now at }
 {
@@ -41,24 +40,57 @@ pub fn past_blanks(s: &[u8], at: usize) -> usize
     if !scan::is_blank(scan::peek(s, next)) {
         return next;
     }
-    past_run(s, at)
+    scan::past_long(s, at, &Blank)
 }
 
-// Whether the blanks from `i` to `p` count as a space: there are some, and not at the start.
-pub fn gap_before(i: usize, p: usize) -> bool
-    ensures { result ≡ gap i p }
-{
-    (i != 0) & (p != i)
+// Where a label goes on that was read up to `from`: at `at`, past the blanks there.
+#[derive(Clone, Copy)]
+pub struct Place<'a> {
+    pub label: &'a [u8],
+    pub from: usize,
+    pub at: usize,
+    ghost reached: { at ≡ past blank label.now from },
 }
 
-// Whether two labels are level, where they were read to `i` and `j` and the blanks there reach to `p` and `q`: both are over, or neither
-// is and the gaps agree.
-fn level_at(a: &[u8], b: &[u8], i: usize, j: usize, p: usize, q: usize) -> bool
-    ensures { result ≡ level a.now b.now i j p q }
+impl<'a> Place<'a> {
+    #[inline(always)]
+    pub fn after(label: &'a [u8], from: usize) -> Place<'a>
+        ensures label { result.label.now ≡ label.now }
+        ensures from { result.from ≡ from }
+        ensures at { result.at ≡ past blank label.now from }
+    {
+        let at = past_blanks(label, from);
+        Place { label, from, at }
+    }
+
+    // Whether the label is over.
+    pub fn is_over(&self) -> bool
+        ensures { result ≡ leb (length self.now.label.now) self.now.at }
+    {
+        self.label.len() <= self.at
+    }
+
+    // Whether the blanks count as a space: there are some, and not at the start.
+    pub fn has_gap(&self) -> bool
+        ensures { result ≡ gap self.now.from self.now.at }
+    {
+        (self.from != 0) & (self.at != self.from)
+    }
+
+    // The byte there, and 0 where the label is over.
+    pub fn byte(&self) -> u8
+        ensures { result ≡ get_or self.now.label.now self.now.at 0 }
+    {
+        scan::peek(self.label, self.at)
+    }
+}
+
+// Whether two labels are level: both are over, or neither is and the gaps agree.
+fn are_level(x: &Place, y: &Place) -> bool
+    ensures { result ≡ level x.now.label.now y.now.label.now x.now.from y.now.from x.now.at y.now.at }
 {
-    let over = a.len() <= p;
-    let gaps = gap_before(i, p) == gap_before(j, q);
-    (over == (b.len() <= q)) & (over | gaps)
+    let over = x.is_over();
+    (over == y.is_over()) & (over | (x.has_gap() == y.has_gap()))
 }
 
 // ---- single bytes
@@ -124,173 +156,187 @@ fn same_run(a: &[u8], b: &[u8], i: usize, j: usize) -> usize
     n
 }
 
-// ---- a step of comparing, where two labels were read to `i` and `j` and the blanks there reach to `p` and `q`, at the bytes `x` and `y`
+// ---- a step of comparing
 
-// Whether the labels are surely not equal: they are not level, or ASCII bytes are unlike when folded.
-pub fn are_apart(a: &[u8], b: &[u8], i: usize, j: usize, p: usize, q: usize, x: u8, y: u8) -> bool
-    ensures { result ≡ apart a.now b.now i j p q x y }
+// Whether two labels are surely not equal: they are not level, or ASCII bytes are unlike when folded.
+pub fn are_apart(x: &Place, y: &Place) -> bool
+    ensures { result ≡ apart x.now.label.now y.now.label.now x.now.from y.now.from x.now.at y.now.at (get_or x.now.label.now x.now.at 0) (get_or y.now.label.now y.now.at 0) }
 {
-    if !is_beyond(x, y) & (folding::lowered(x) != folding::lowered(y)) {
+    let own = x.byte();
+    let other = y.byte();
+    if !is_beyond(own, other) & (folding::lowered(own) != folding::lowered(other)) {
         return true;
     }
-    !level_at(a, b, i, j, p, q)
+    !are_level(x, y)
 }
 
-// How many bytes from `p` and `q` on both labels have in common, where they are not apart; 0 where the table has to tell.
-pub fn shared(a: &[u8], b: &[u8], p: usize, q: usize, x: u8, y: u8) -> usize
-    requires { Meets a.now b.now p q x y }
-    ensures { Shared a.now b.now p q result }
+// How many bytes both labels have in common there, where they are not apart; none where the table has to tell.
+pub fn shared(x: &Place, y: &Place) -> Option<usize>
+    requires { Meets x.now.label.now y.now.label.now x.now.at y.now.at }
+    ensures { IfSome result (λ n. Shared x.now.label.now y.now.label.now x.now.at y.now.at n) }
 {
-    if is_beyond(x, y) {
-        return same_run(a, b, p, q);
+    if is_beyond(x.byte(), y.byte()) {
+        let n = same_run(x.label, y.label, x.at, y.at);
+        if n == 0 {
+            return None;
+        }
+        return Some(n);
     }
-    1 + same_count(a, b, p + 1, q + 1, ASCII)
+    Some(1 + same_count(x.label, y.label, x.at + 1, y.at + 1, ASCII))
+}
+
+// Whether two labels are equal, where that can be told without the table.
+pub fn same_quick(a: &[u8], b: &[u8]) -> Option<bool>
+    ensures { IfSome result (λ answer. answer ≡ matches a.now b.now) }
+{
+    if are_unlike(scan::peek(a, 0), scan::peek(b, 0)) {
+        return Some(false);
+    }
+    let mut i = same_count(a, b, 0, 0, ASCII);
+    let mut j = i;
+    loop {
+        let x = Place::after(a, i);
+        let y = Place::after(b, j);
+        if are_apart(&x, &y) {
+            return Some(false);
+        }
+        if x.is_over() {
+            return Some(true);
+        }
+        let n = shared(&x, &y)?;
+        i = x.at + n;
+        j = y.at + n;
+    }
 }
 
 // ---- with the table
 
-// A byte of a compared form, or 256 at its end; the place to read on from; and the bytes of a folded character that come before that,
-// the first lowest.
-#[derive(Clone, Copy)]
-pub struct Next {
-    pub byte: u64,
-    pub at: usize,
-    pub left: u64,
+// What is left of a label's compared form, byte by byte: the bytes of a folded character that are left, the first lowest, and what the
+// label gives from `at` on.
+#[derive(Drop)]
+pub struct Form<'a> {
+    table: &'a Table,
+    label: &'a [u8],
+    at: usize,
+    left: u64,
+}
+
+impl<'a> Form<'a> {
+    // The form of what is left from `at` on.
+    pub fn after(table: &'a Table, label: &'a [u8], at: usize) -> Form<'a>
+        ensures { form result.label.now result.at result.left ≡ form_from label.now at }
+    {
+        Form {
+            table,
+            label,
+            at,
+            left: 0,
+        }
+    }
+}
+
+// A byte of a form, and what is left after it.
+#[derive(Drop)]
+struct Opened<'a> {
+    byte: u8,
+    rest: Form<'a>,
 }
 
 // What the character at `p` gives.
-fn opened(t: &[u16; 1328], s: &[u8], p: usize) -> Next
-    requires t_value { t.now ≡ table }
+fn character_at<'a>(table: &'a Table, s: &'a [u8], p: usize) -> Opened<'a>
     requires p_in_bounds { p < length s.now }
     requires p_value { blank (get_or s.now p 0) ≡ false }
-    ensures { Opens s.now p result.byte result.at result.left }
+    ensures label { result.rest.label.now ≡ s.now }
+    ensures opens { Opens s.now p result.byte result.rest.at result.rest.left }
 {
     let b = s[p];
-    let x = scan::peek(s, p + 1);
-    if folding::is_pair(b, x) {
-        let f = folding::folded_word(t, folding::code_of(b, x));
-        return Next {
-            byte: f % 256,
-            at: p + 2,
-            left: f / 256,
-        };
-    }
-    Next {
-        byte: folding::lowered(b) as u64,
-        at: p + 1,
-        left: 0,
-    }
-}
-
-// The next byte of the compared form of a label that was read to `i`, where the bytes of `w` come first.
-pub fn next_byte(t: &[u16; 1328], s: &[u8], i: usize, w: u64) -> Next
-    requires { t.now ≡ table }
-    ensures { form s.now i w ≡ emit result.byte (form s.now result.at result.left) }
-{
-    if w != 0 {
-        return Next {
-            byte: w % 256,
-            at: i,
-            left: w / 256,
-        };
-    }
-    let p = past_blanks(s, i);
-    if s.len() <= p {
-        return Next {
-            byte: 256,
-            at: p,
-            left: 0,
-        };
-    }
-    if gap_before(i, p) {
-        return Next {
-            byte: 32,
-            at: p,
-            left: 0,
-        };
-    }
-    opened(t, s, p)
-}
-
-// Whether what is left of two compared forms is the same, byte for byte.
-fn same_bytes(
-    t: &[u16; 1328],
-    a: &[u8],
-    b: &[u8],
-    from: usize,
-    first: u64,
-    to: usize,
-    second: u64,
-) -> bool
-    requires { t.now ≡ table }
-    ensures { result ≡ equals (form a.now from first) (form b.now to second) }
-{
-    let mut i = from;
-    let mut w = first;
-    let mut j = to;
-    let mut v = second;
-    loop {
-        let x = next_byte(t, a, i, w);
-        let y = next_byte(t, b, j, v);
-        if x.byte != y.byte {
-            return false;
+    match folding::code_of(b, scan::peek(s, p + 1)) {
+        Some(c) => {
+            let word = table.word_of(c);
+            Opened {
+                byte: (word % 256) as u8,
+                rest: Form {
+                    table,
+                    label: s,
+                    at: p + 2,
+                    left: word / 256,
+                },
+            }
         }
-        if x.byte == 256 {
-            return true;
-        }
-        i = x.at;
-        w = x.left;
-        j = y.at;
-        v = y.left;
+        None => Opened {
+            byte: folding::lowered(b),
+            rest: Form {
+                table,
+                label: s,
+                at: p + 1,
+                left: 0,
+            },
+        },
     }
 }
 
-// Whether what is left of two labels from `from` and `to` on compares equal.
-fn same_from(t: &[u16; 1328], a: &[u8], b: &[u8], from: usize, to: usize) -> bool
-    requires { t.now ≡ table }
-    ensures { result ≡ equals (form_from a.now from) (form_from b.now to) }
-{
-    let mut i = from;
-    let mut j = to;
-    loop {
-        let n = same_run(a, b, i, j);
-        i += n;
-        j += n;
-        let p = past_blanks(a, i);
-        let q = past_blanks(b, j);
-        if !level_at(a, b, i, j, p, q) {
-            return false;
+impl<'a> Iterator for Form<'a> {
+    type Item = u8;
+
+    ghost next_gives = { YieldsFirst (λ f. form f.label.now f.at f.left) };
+
+    ghost remaining = { item_count (λ f. form f.label.now f.at f.left) };
+
+    fn next(&mut self) -> Option<u8> {
+        if self.left != 0 {
+            let byte = (self.left % 256) as u8;
+            self.left /= 256;
+            return Some(byte);
         }
-        if a.len() <= p {
-            return true;
+        let place = Place::after(self.label, self.at);
+        if place.is_over() {
+            return None;
         }
-        let x = opened(t, a, p);
-        let y = opened(t, b, q);
-        if x.byte != y.byte {
-            return false;
+        if place.has_gap() {
+            self.at = place.at;
+            return Some(b' ');
         }
-        if x.left != y.left {
-            return same_bytes(t, a, b, x.at, x.left, y.at, y.left);
-        }
-        i = x.at;
-        j = y.at;
+        let Opened { byte, rest } = character_at(self.table, self.label, place.at);
+        *self = rest;
+        Some(byte)
     }
 }
 
 // Whether two labels are equal, with the table at hand.
-pub fn same_folded(t: &[u16; 1328], a: &[u8], b: &[u8]) -> bool
-    requires { t.now ≡ table }
+pub fn same_folded(table: &Table, a: &[u8], b: &[u8]) -> bool
     ensures { result ≡ matches a.now b.now }
 {
-    same_from(t, a, b, 0, 0)
+    let mut i = 0;
+    let mut j = 0;
+    loop {
+        let n = same_run(a, b, i, j);
+        let x = Place::after(a, i + n);
+        let y = Place::after(b, j + n);
+        if !are_level(&x, &y) {
+            return false;
+        }
+        if x.is_over() {
+            return true;
+        }
+        let own = character_at(table, a, x.at);
+        let other = character_at(table, b, y.at);
+        if own.byte != other.byte {
+            return false;
+        }
+        if own.rest.left != other.rest.left {
+            return own.rest.cmp(other.rest).is_eq();
+        }
+        i = own.rest.at;
+        j = other.rest.at;
+    }
 }
 
-// What `same_from` tells; the table is built here.
-fn same_by_table(a: &[u8], b: &[u8], i: usize, j: usize) -> bool
-    ensures { result ≡ equals (form_from a.now i) (form_from b.now j) }
+// The same; the table is built here, so that no other call pays for its room.
+#[inline(never)]
+fn same_by_table(a: &[u8], b: &[u8]) -> bool
+    ensures { result ≡ matches a.now b.now }
 {
-    let t = folding::fold_table();
-    same_from(&t, a, b, i, j)
+    same_folded(&Table::new(), a, b)
 }
 
 // ----
@@ -299,27 +345,8 @@ fn same_by_table(a: &[u8], b: &[u8], i: usize, j: usize) -> bool
 pub fn same_label(a: &[u8], b: &[u8]) -> bool
     ensures { result ≡ matches a.now b.now }
 {
-    if are_unlike(scan::peek(a, 0), scan::peek(b, 0)) {
-        return false;
-    }
-    let mut i = same_count(a, b, 0, 0, ASCII);
-    let mut j = i;
-    loop {
-        let p = past_blanks(a, i);
-        let q = past_blanks(b, j);
-        let x = scan::peek(a, p);
-        let y = scan::peek(b, q);
-        if are_apart(a, b, i, j, p, q, x, y) {
-            return false;
-        }
-        if a.len() <= p {
-            return true;
-        }
-        let n = shared(a, b, p, q, x, y);
-        if n == 0 {
-            return same_by_table(a, b, i, j);
-        }
-        i = p + n;
-        j = q + n;
+    match same_quick(a, b) {
+        Some(same) => same,
+        None => same_by_table(a, b),
     }
 }

@@ -1,15 +1,15 @@
--- The end of a line and a blank line from a place on, and what each turn of the loop to a line's end shows.
+-- The end of a line and a blank line from a place on.
 use Prim.Native.Nat.{ℕ, ◌+◌, ◌≤◌, ◌<◌}
 use native.Mathlib.Omega.{arith}
-use mathlib.Core.Path.{◌≡◌, sym}
-use mathlib.Core.List.{List}
-use borrow.Author.Tests.{eq-eqb, ne_eqb}
-use lib.ListN.{length, get_or, drop, length-drop, drop_of_length-le}
+use mathlib.Core.Path.{◌≡◌, refl, sym}
+use mathlib.Core.List.{List, [], ◌∷◌}
+use lib.Dec.{eqb}
+use lib.ListN.{length, drop, length-drop}
 use lib.Seq.{get_or-drop}
 use Rattle.scan.specs.Reading.{run, past}
-use Rattle.scan.proofs.Test.{leb_same}
-use Rattle.scan.proofs.Scan.{at_cons}
-use Rattle.block.specs.Line.{padding}
+use Rattle.scan.proofs.Test.{by, leb_same}
+use Rattle.scan.proofs.Scan.{run_yes, run_no}
+use Rattle.block.specs.Line.{padding, in_line}
 use Rattle.block.specs.Reading.{line_ends, blank_line, line_length}
 
 -- an end of line of what is left from a place on
@@ -21,16 +21,26 @@ pub blank_moved : (s : List ℕ) (at : ℕ) → line_ends s (past padding s at) 
 unfolding blank_line past
 blank_moved s at = sym (ends_moved s at (run padding (drop at s)))
 
--- ---- with a loop's invariant in hand: what a turn that goes on, one that answers, and the loop's end show
-module _ (s : List ℕ) (i : ℕ) {r : ℕ} where
-  pub line_on : i + line_length (drop i s) ≡ r → i < length s → (get_or s i 0 ≡ 10 → ⊥) → (i + 1) + line_length (drop (i + 1) s) ≡ r
-  unfolding line_length
-  line_on inv h n = let q = rw (at_cons s i h, ne_eqb _ 10 n, line_length) at inv in omega arith
+-- ---- a line is a run of bytes that are no LF, and the LF after it
+line_fed : (l : List ℕ) → run in_line l < length l → line_length l ≡ run in_line l + 1
+unfolding line_length
+line_fed [] h = absurd (omega arith)
+line_fed (b ∷ l) h =
+    by (eqb b 10) (λ e. rw (e, line_length, run_no in_line b l (simp e)))
+    (λ e. let q = run_yes in_line b l (simp e) in rw (e, line_length, q) (omega (arith, line_fed l (omega arith))))
 
-  pub line_stop : i + line_length (drop i s) ≡ r → i < length s → get_or s i 0 ≡ 10 → i + 1 ≡ r
-  unfolding line_length
-  line_stop inv h e = let q = rw (at_cons s i h, eq-eqb _ 10 e, line_length) at inv in omega arith
+line_ended : (l : List ℕ) → length l ≤ run in_line l → line_length l ≡ run in_line l
+unfolding line_length run
+line_ended [] h = refl
+line_ended (b ∷ l) h =
+    by (eqb b 10) (λ e. absurd (omega (arith, run_no in_line b l (simp e))))
+    (λ e. let q = run_yes in_line b l (simp e) in rw (e, line_length, q) (omega (arith, line_ended l (omega arith))))
 
-  pub line_done : i + line_length (drop i s) ≡ r → length s ≤ i → i ≡ r
-  unfolding line_length
-  line_done inv h = let q = rw (drop_of_length-le s h) at inv in omega arith
+module _ (s : List ℕ) (at : ℕ) {end : ℕ} (e : end ≡ past in_line s at) where
+  pub feed_taken : end < length s → end + 1 ≡ at + line_length (drop at s)
+  unfolding past
+  feed_taken h = omega (arith, line_fed (drop at s) (omega (arith, length-drop at s)))
+
+  pub text_ended : length s ≤ end → end ≡ at + line_length (drop at s)
+  unfolding past
+  text_ended h = omega (arith, line_ended (drop at s) (omega (arith, length-drop at s)))

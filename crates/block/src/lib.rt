@@ -3,22 +3,38 @@
 
 ghost use Rattle.std.specs.Prelude.{◌≡◌, ◌+◌, drop};
 ghost use Rattle.scan.specs.Reading.{past};
-ghost use Rattle.block.specs.Line.{padding};
+ghost use Rattle.block.specs.Line.{padding, in_line};
 ghost use Rattle.block.specs.Reading.{line_ends, blank_line, line_length, block_length};
+
+use scan::Class;
+
+// Space and tab.
+struct Padding;
+
+impl Class<u8> for Padding {
+    ghost has = { λ _ b. padding b };
+
+    fn holds(&self, b: u8) -> bool {
+        (b == 32) | (b == 9)
+    }
+}
+
+// Any byte but LF.
+struct InLine;
+
+impl Class<u8> for InLine {
+    ghost has = { λ _ b. in_line b };
+
+    fn holds(&self, b: u8) -> bool {
+        b != 10
+    }
+}
 
 // Past the spaces and tabs from `at` on.
 pub fn past_padding(s: &[u8], at: usize) -> usize
     ensures { result ≡ past padding s.now at }
 {
-    let mut i = at;
-    while i < s.len() {
-        let b = s[i];
-        if !((b == 32) | (b == 9)) {
-            return i;
-        }
-        i += 1;
-    }
-    i
+    scan::past(s, at, &Padding)
 }
 
 // Whether an end of line stands at `i`: an LF, or the end of `s`.
@@ -29,6 +45,7 @@ pub fn line_ends(s: &[u8], i: usize) -> bool
 }
 
 // Whether the line that starts at `at` is blank.
+#[tactic(auto, using(crate::proofs::Turns::blank_moved))]
 pub fn blank_line(s: &[u8], at: usize) -> bool
     ensures { result ≡ blank_line (drop at s.now) }
 {
@@ -36,20 +53,19 @@ pub fn blank_line(s: &[u8], at: usize) -> bool
 }
 
 // Past the line that starts at `at`, and its LF. Long stretches without an LF are passed by strides.
+#[tactic(auto, using(crate::proofs::Turns::feed_taken, crate::proofs::Turns::text_ended))]
 pub fn line_end(s: &[u8], at: usize) -> usize
     ensures { result ≡ at + line_length (drop at s.now) }
 {
-    let mut i = scan::past_like(s, at, 10, false);
-    while i < s.len() {
-        if s[i] == 10 {
-            return i + 1;
-        }
-        i += 1;
+    let end = scan::past_long(s, at, &InLine);
+    if end < s.len() {
+        return end + 1;
     }
-    i
+    end
 }
 
 // Where the block ends whose first line starts at `at`.
+#[tactic(auto, using(crate::proofs::Parts::line_less, crate::proofs::Parts::block_starts, crate::proofs::Parts::block_on, crate::proofs::Parts::block_stop, crate::proofs::Parts::block_done))]
 pub fn block_end(s: &[u8], at: usize) -> usize
     ensures { result ≡ at + block_length (drop at s.now) }
 {

@@ -1,56 +1,36 @@
--- Copying the bytes that fit.
-use Prim.Native.Nat.{ℕ, ◌+◌, ◌-◌, ◌≤◌, ◌<◌}
-use native.Mathlib.Nat.{add-zero}
-use native.Mathlib.Omega.{arith}
-use mathlib.Core.Path.{◌≡◌, refl, sym, ◌∙◌}
-use mathlib.Core.List.{List, ◌∷◌, []}
-use mathlib.Core.Logic.{◌⊎◌, inl, inr, ⊎_elim}
-use borrow.Author.Tests.{le-leb, lt-leb, leb-true, leb-false}
-use lib.ListN.{length, get_or, set, drop, drop_of_length-le}
-use lib.Dec.{leb}
+-- What is copied of w to a page from n on: as much as fits.
+use Rattle.std.proofs.Common.{ℕ, ◌+◌, ◌-◌, ◌≤◌, ◌<◌, ◌≡◌, ◌⊎◌, inl, inr, min, List, [], ◌++◌, length, take, drop, leb, refl, sym, ap, ◌∙◌, append_assoc, add-zero, arith}
+use Rattle.std.proofs.lemmas.List.{take-append-drop}
+use Rattle.std.proofs.lemmas.List.Edits.{sets-eq}
+use borrow.Rule.Slice.PartMut.{put_mid}
+use borrow.Author.Tests.{leb-true, leb-false}
+use mathlib.Core.Logic.{⊎_elim}
+use lib.ListN.{drop_of_length-le}
+use lib.Seq.{sets, length-sets, length-take-le, drop-drop}
 use Rattle.scan.proofs.Test.{by}
-use Rattle.scan.proofs.Scan.{at_cons}
-use Rattle.buffer.specs.Stored.{fitting, Writes, Leads}
-use Rattle.buffer.proofs.Writing.{leads, onward, done, done_past, byte_within}
+use Rattle.buffer.proofs.Writing.{sets_append, sets_past}
 
--- ---- how many fit
-module _ (most n k : ℕ) where
-  pub all_fit : n + k ≤ most → k ≡ fitting most n k
-  unfolding fitting
-  all_fit h = rw (le-leb (n + k) most h) refl
+module _ (page w : List ℕ) (n k : ℕ) where
+  -- past the page's end nothing is stored, and past the bytes there is nothing
+  rest_past : (l : List ℕ) → length l ≡ length page → (length page ≤ n + k) ⊎ (length w ≤ k) → sets l (n + k) (drop k w) ≡ l
+  rest_past l z = ⊎_elim (λ h. sets_past l (n + k) (drop k w) (omega arith)) (λ h. let z : drop k w ≡ [] = drop_of_length-le w h in rw z refl)
 
-  pub some_fit : {r : ℕ} → most < n + k → r ≡ most - n → r ≡ fitting most n k
-  unfolding fitting
-  some_fit h e = rw (lt-leb (n + k) most h) e
+  part_stored : k ≤ length w → n + k ≤ length page → (length page ≤ n + k) ⊎ (length w ≤ k) → put_mid n k page (take k w) ≡ sets page n w
+  part_stored h p q =
+      let z : length (take k w) ≡ k = length-take-le k w h in
+      let part : sets page n (take k w) ≡ put_mid n k page (take k w) =
+      sets-eq (take k w) page n (omega arith) ∙ rw (z, append_assoc, drop-drop) refl in
+      let whole : sets page n w ≡ sets (sets page n (take k w)) (n + k) (drop k w) =
+      ap (sets page n) (sym (take-append-drop k w)) ∙ sets_append page n (take k w) (drop k w) ∙ rw z refl in
+      sym part ∙ sym (rest_past _ (length-sets page n (take k w)) q) ∙ sym whole
 
-  module _ {r : ℕ} (e : r ≡ fitting most n k) where
-    -- a byte that fitting is one of the k, and its place lies in the page
-    pub fit_inside : (i : ℕ) → i < r → (i < k) × (n + i < most)
-    unfolding fitting
-    fit_inside i h =
-        by (leb (n + k) most)
-        (λ t. let z : r ≡ k = e ∙ rw t refl in let l = leb-true (n + k) most t in (omega arith, omega arith))
-        (λ t. let z : r ≡ most - n = e ∙ rw t refl in let l = leb-false (n + k) most t in (omega arith, omega arith))
+-- e is where the copy ends
+module _ (page w : List ℕ) (n : ℕ) {e : ℕ} (m : e ≡ min (length page) (n + length w)) where
+  ended : (k : ℕ) → e ≤ n + k → (length page ≤ n + k) ⊎ (length w ≤ k)
+  ended k h = by (leb (length w) k) (λ t. inr (leb-true _ _ t)) (λ t. inl (omega (arith, leb-false _ _ t)))
 
-    -- past those that fit, the page ends or the bytes do
-    pub fit_past : (i : ℕ) → r ≤ i → (most ≤ n + i) ⊎ (k ≤ i)
-    unfolding fitting
-    fit_past i h =
-        by (leb (n + k) most) (λ t. let z : r ≡ k = e ∙ rw t refl in inr (omega arith)) (λ t. let z : r ≡ most - n = e ∙ rw t refl in inl (omega arith))
+  pub some_stored : n < e → put_mid n (e - n) page (take (e - n) w) ≡ sets page n w
+  some_stored h = part_stored page w n (e - n) (omega arith) (omega arith) (ended (e - n) (omega arith))
 
--- ---- a loop that copies w to the page from n on, and stands at i
-abbrev pub Copies : List ℕ → ℕ → List ℕ → List ℕ → ℕ → Type 0
-Copies page₀ n w page i = Leads page₀ n w page (n + i) (drop i w)
-
-pub copies : {page w : List ℕ} {n : ℕ} → Copies page n w page 0
-copies {n = n} = rw (add-zero n) leads
-
-module _ {page₀ w page : List ℕ} {n i : ℕ} (l : Copies page₀ n w page i) where
-  pub copies_on : {after : List ℕ} → i < length w → after ≡ set page (n + i) (get_or w i 0) → Copies page₀ n w after (i + 1)
-  copies_on h e = let z : n + i + 1 ≡ n + (i + 1) = omega arith in rw z at (onward l (at_cons w i h) (byte_within e))
-
-  pub copied : {r : ℕ} → r ≡ fitting (length page₀) n (length w) → r ≤ i → Writes page₀ n w page (n + length w)
-  copied e h =
-      ⊎_elim (λ t. done_past l (omega (arith, l.same)))
-      (λ t. let z : n + i ≡ n + length w = (done l (drop_of_length-le w t)).size in rw z at (done l (drop_of_length-le w t)))
-      (fit_past (length page₀) n (length w) e i h)
+  pub none_stored : e ≤ n → page ≡ sets page n w
+  none_stored h = let z : sets page (n + 0) w ≡ page = rest_past page w n 0 page refl (ended 0 (omega arith)) in sym (rw add-zero at z)

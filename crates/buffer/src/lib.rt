@@ -1,45 +1,48 @@
-// Writing to a page that may be too short: each function writes from `n` on what fits, and returns the length of what is written
-// by then, with what did not fit. On an empty page it measures.
+// A page that may be too short for what is written to it: what does not fit is counted and not stored. An empty page only measures.
 #![tactic(auto)]
 
-ghost use Rattle.std.specs.Prelude.{◌≡◌, [], ◌∷◌, length, ◌+◌, ◌≤◌};
-ghost use Rattle.buffer.specs.Stored.{page_most, fitting, Writes};
+ghost use Rattle.std.specs.Prelude.{◌≡◌, [], ◌∷◌};
+ghost use Rattle.buffer.specs.Stored.{HasRoom, Grows};
 
-// One byte.
-pub fn put_byte(page: &mut [u8], n: usize, b: u8) -> usize
-    requires { n + 1 ≤ page_most }
-    ensures { Writes page.old n (b ∷ []) page.new result }
-{
-    if n < page.len() {
-        page[n] = b;
-    }
-    n + 1
+// A page, and the length of what is written to it so far.
+#[derive(Drop)]
+pub struct Page<'a> {
+    pub bytes: &'a mut [u8],
+    pub size: usize,
 }
 
-// How many of `count` bytes fit into a page of `most` bytes from `n` on.
-fn fitting(most: usize, n: usize, count: usize) -> usize
-    requires { n + count ≤ page_most }
-    ensures { result ≡ fitting most n count }
-{
-    if n + count <= most {
-        return count;
+impl<'a> Page<'a> {
+    // Nothing is written yet.
+    pub fn new(bytes: &'a mut [u8]) -> Page<'a>
+        ensures same_bytes { result.bytes.ghost_name ≡ bytes.entry.ghost_name }
+        ensures untouched { result.bytes.now ≡ bytes.old }
+        ensures nothing { result.size ≡ 0 }
+    {
+        Page { bytes, size: 0 }
     }
-    if n < most {
-        return most - n;
-    }
-    0
-}
 
-// Bytes as they are.
-pub fn put(page: &mut [u8], n: usize, text: &[u8]) -> usize
-    requires { n + length text.now ≤ page_most }
-    ensures { Writes page.old n text.now page.new result }
-{
-    let room = fitting(page.len(), n, text.len());
-    let mut i = 0;
-    while i < room {
-        page[n + i] = text[i];
-        i += 1;
+    // One byte.
+    pub fn put_byte(&mut self, b: u8)
+        requires { HasRoom self.old (b ∷ []) }
+        ensures { Grows self.old (b ∷ []) self.new }
+    {
+        if self.size < self.bytes.len() {
+            let n = self.size;
+            self.bytes[n] = b;
+        }
+        self.size += 1;
     }
-    n + text.len()
+
+    // Bytes as they are.
+    pub fn put(&mut self, text: &[u8])
+        requires { HasRoom self.old text.now }
+        ensures { Grows self.old text.now self.new }
+    {
+        let n = self.size;
+        self.size = n + text.len();
+        let end = self.bytes.len().min(self.size);
+        if n < end {
+            self.bytes[n..end].copy_from_slice(&text[..end - n]);
+        }
+    }
 }

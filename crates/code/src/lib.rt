@@ -1,55 +1,44 @@
 // A code span on the page.
 #![tactic(auto)]
 
-ghost use Rattle.std.specs.Prelude.{◌≡◌, length, ◌+◌, ◌≤◌};
+ghost use Rattle.std.specs.Prelude.{◌≡◌};
 ghost use mathlib.Core.List.{map, flat_map};
-ghost use Rattle.scan.specs.Reading.{run};
-ghost use Rattle.buffer.specs.Stored.{page_most, Writes};
+ghost use Rattle.buffer.specs.Stored.{HasRoom, Grows};
 ghost use Rattle.escaping.specs.Escaping.{escaped};
 ghost use Rattle.code.specs.Code.{feed_as_space};
 ghost use Rattle.code.specs.Reading.{space_or_lf, margin, code_of, code_element};
 
-use buffer::put;
+use buffer::Page;
+use scan::Class;
 
 // An LF becomes a space.
 fn spaced_byte(b: u8) -> u8
     ensures { result ≡ feed_as_space b }
 {
-    if b == 10 {
-        return 32;
-    }
-    b
+    if b == b'\n' { b' ' } else { b }
 }
 
-// A space, or an LF, which becomes one.
-fn is_space(b: u8) -> bool
-    ensures { result ≡ space_or_lf b }
-{
-    (b == 32) | (b == 10)
-}
+// Spaces, and LFs, which become spaces.
+#[derive(Drop)]
+struct Spaces;
 
-// How many spaces and LFs stand at the front.
-fn leading_spaces(s: &[u8]) -> usize
-    ensures { result ≡ run space_or_lf s.now }
-{
-    let mut i = 0;
-    while i < s.len() {
-        if !is_space(s[i]) {
-            return i;
-        }
-        i += 1;
+impl Class<u8> for Spaces {
+    ghost has = { λ _ b. space_or_lf b };
+
+    fn holds(&self, b: u8) -> bool {
+        matches!(b, b' ' | b'\n')
     }
-    i
 }
 
 // How many bytes are dropped at each end of a code span's bytes: one or none.
+#[tactic(auto, using(crate::proofs::Margin::margin_one, crate::proofs::Margin::margin_end, crate::proofs::Margin::margin_front))]
 fn dropped_spaces(s: &[u8]) -> usize
     ensures { result ≡ margin s.now }
 {
-    let front = leading_spaces(s);
+    let front = scan::past(s, 0, &Spaces);
     let most = s.len();
     if (0 < front) & (front < most) {
-        if is_space(s[most - 1]) {
+        if Spaces.holds(s[most - 1]) {
             return 1;
         }
     }
@@ -57,42 +46,38 @@ fn dropped_spaces(s: &[u8]) -> usize
 }
 
 // Bytes of code.
-fn put_code_bytes(page: &mut [u8], n: usize, s: &[u8]) -> usize
-    requires { n + length (flat_map escaped (map feed_as_space s.now)) ≤ page_most }
-    ensures { Writes page.old n (flat_map escaped (map feed_as_space s.now)) page.new result }
+fn put_code_bytes(page: &mut Page, s: &[u8])
+    requires { HasRoom page.old (flat_map escaped (map feed_as_space s.now)) }
+    ensures { Grows page.old (flat_map escaped (map feed_as_space s.now)) page.new }
 {
-    let mut k = n;
-    let mut i = 0;
-    loop {
-        let to = escaping::as_is_end(s, i, b'\n');
-        k = put(page, k, &s[i..to]);
-        if to == s.len() {
-            return k;
-        }
-        k = escaping::put_escaped(page, k, spaced_byte(s[to]));
-        i = to + 1;
+    let mut i = escaping::put_run(page, s, 0, b'\n');
+    while i < s.len() {
+        escaping::put_escaped(page, spaced_byte(s[i]));
+        i = escaping::put_run(page, s, i + 1, b'\n');
     }
 }
 
 // The content of a code span, between its tags.
-pub fn put_code(page: &mut [u8], n: usize, s: &[u8]) -> usize
-    requires { n + length (code_of s.now) ≤ page_most }
-    ensures { Writes page.old n (code_of s.now) page.new result }
+#[tactic(auto, using(crate::proofs::Margin::margin_fits))]
+pub fn put_code(page: &mut Page, s: &[u8])
+    requires { HasRoom page.old (code_of s.now) }
+    ensures { Grows page.old (code_of s.now) page.new }
 {
     let from = dropped_spaces(s);
     let to = s.len() - from;
-    put_code_bytes(page, n, &s[from..to])
+    put_code_bytes(page, &s[from..to]);
 }
 
 // A code span, with its tags or without.
-pub fn put_code_span(page: &mut [u8], n: usize, tags: bool, s: &[u8]) -> usize
-    requires { n + length (code_element tags s.now) ≤ page_most }
-    ensures { Writes page.old n (code_element tags s.now) page.new result }
+pub fn put_code_span(page: &mut Page, tags: bool, s: &[u8])
+    requires { HasRoom page.old (code_element tags s.now) }
+    ensures { Grows page.old (code_element tags s.now) page.new }
 {
     if !tags {
-        return put_code(page, n, s);
+        put_code(page, s);
+        return;
     }
-    let mut k = put(page, n, b"<code>");
-    k = put_code(page, k, s);
-    put(page, k, b"</code>")
+    page.put(b"<code>");
+    put_code(page, s);
+    page.put(b"</code>");
 }

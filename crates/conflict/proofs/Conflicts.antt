@@ -1,4 +1,5 @@
 -- The reading is the law: the first definition that differs from the first one of equal label is the first that differs from any earlier one of equal label.
+use Rattle.std.specs.Prelude.{None, Option, Some}
 use Prim.Native.Nat.{ℕ, zero, suc, ◌+◌, ◌≤◌, ◌<◌}
 use native.Mathlib.Omega.{arith}
 use mathlib.Core.Path.{◌≡◌, refl, sym, ap, ◌∙◌, subst}
@@ -10,8 +11,6 @@ use lib.ListN.{length, get_or, take, length-map}
 use lib.Seq.{length-take-le}
 use lib.Dec.{ltb}
 use Rattle.scan.proofs.Test.{by}
-use Rattle.scan.specs.declared.Found.{Found}
-use Rattle.scan.specs.declared.Found.TheVariants.{At, Nothing}
 use Rattle.matching.specs.Form.{Compared, Equal}
 use Rattle.matching.proofs.Equality.{one_form}
 use Rattle.texts.specs.Texts.{Texts}
@@ -33,7 +32,7 @@ equal_through {a} {b} {c} p q = record {
 }
 
 -- ---- a step of the search
-pub conflict_hit : (T : Texts) (js : List Listed) (k n : ℕ) → conflicts T (take k js) (entry js k) ≡ true → conflict_from T js k (suc n) ≡ At k
+pub conflict_hit : (T : Texts) (js : List Listed) (k n : ℕ) → conflicts T (take k js) (entry js k) ≡ true → conflict_from T js k (suc n) ≡ Some k
 unfolding conflict_from
 conflict_hit T js k n e = rw (e, conflict_from)
 
@@ -121,18 +120,18 @@ module _ (T : Texts) (js : List Listed) where
           here : c.earlier ≡ i → ⊥
           here e = not_both T (agree T (entry js i) (entry js k) (sym differ_here ∙ d)) (rw e at c.differ)
 
-    abbrev found : Found
+    abbrev found : Option ℕ
     found = first_match earlier (label k)
 
-    hit_by : (f : Found) → found ≡ f → differs_from T (take k js) (entry js k) f ≡ true → Conflict js T k
+    hit_by : (f : Option ℕ) → found ≡ f → differs_from T (take k js) (entry js k) f ≡ true → Conflict js T k
     unfolding differs_from
-    hit_by (At i) e d = conflict ((first_equal earlier (label k) i).0 e) d
-    hit_by Nothing e d = absurd (true≢false (sym d))
+    hit_by (Some i) e d = conflict ((first_equal earlier (label k) i).0 e) d
+    hit_by None e d = absurd (true≢false (sym d))
 
-    clear_by : (f : Found) → found ≡ f → Clear k → differs_from T (take k js) (entry js k) f ≡ false → Conflict js T k → ⊥
+    clear_by : (f : Option ℕ) → found ≡ f → Clear k → differs_from T (take k js) (entry js k) f ≡ false → Conflict js T k → ⊥
     unfolding differs_from
-    clear_by (At i) e clear d c = no_conflict ((first_equal earlier (label k) i).0 e) clear d c
-    clear_by Nothing e clear d c =
+    clear_by (Some i) e clear d c = no_conflict ((first_equal earlier (label k) i).0 e) clear d c
+    clear_by None e clear d c =
         (none_equal earlier (label k)).0 e c.earlier (omega (arith, size, c.before)) (equal_at c.earlier c.before c.equal)
 
     clear_next : Clear k → conflicts T (take k js) (entry js k) ≡ false → Clear (k + 1)
@@ -141,9 +140,9 @@ module _ (T : Texts) (js : List Listed) where
         (λ f. let e : k ≡ i = omega (arith, ltb-false i k f) in subst (λ (n : ℕ). Conflict js T n → ⊥) e (clear_by found refl clear d))
 
   -- ---- all of them
-  data Says : Found → Type 0 where
-    first : {k : ℕ} → Conflict js T k → Clear k → Says (At k)
-    none : NoConflict js T → Says Nothing
+  data Says : Option ℕ → Type 0 where
+    first : {k : ℕ} → Conflict js T k → Clear k → Says (Some k)
+    none : NoConflict js T → Says None
 
   says : (n k : ℕ) → k + n ≡ length js → Clear k → Says (conflict_from T js k n)
   unfolding conflict_from
@@ -154,25 +153,25 @@ module _ (T : Texts) (js : List Listed) where
       (λ d. subst Says (sym (conflict_hit T js k n d)) (first (hit_by k h (found k h) refl d) clear))
       (λ d. subst Says (sym (conflict_miss T js k n d)) (says n (k + 1) (omega arith) (clear_next k h clear d)))
 
-  to_first : {f : Found} {k : ℕ} → Says f → f ≡ At k → FirstConflict js T (suc k)
+  to_first : {f : Option ℕ} {k : ℕ} → Says f → f ≡ Some k → FirstConflict js T (suc k)
   to_first {k} (first {k = i} c clear) e =
       let z : i ≡ k = cc in
       record { index = k; conflict = rw z at c; first = rw z at clear; numbered = refl }
   to_first (none c) e = let z : ◌≡◌ {A = ℕ} 0 1 = cc in absurd (omega arith)
 
-  from_first : {f : Found} {k : ℕ} → Says f → FirstConflict js T (suc k) → f ≡ At k
+  from_first : {f : Option ℕ} {k : ℕ} → Says f → FirstConflict js T (suc k) → f ≡ Some k
   from_first {k} (first {k = i} c clear) w =
       let n : k ≡ w.index = omega (arith, w.numbered) in
-      ap At
+      ap Some
       (by (ltb i k) (λ t. absurd (w.first i (omega (arith, ltb-true i k t)) c))
       (λ f. by (ltb k i) (λ t. absurd (clear w.index (omega (arith, ltb-true k i t)) w.conflict)) (λ g. omega (arith, ltb-false i k f, ltb-false k i g))))
   from_first (none c) w = absurd (c w.index w.conflict)
 
-  to_none : {f : Found} → Says f → f ≡ Nothing → NoConflict js T
+  to_none : {f : Option ℕ} → Says f → f ≡ None → NoConflict js T
   to_none (first c clear) e = let z : ◌≡◌ {A = ℕ} 0 1 = cc in absurd (omega arith)
   to_none (none c) e = c
 
-  from_none : {f : Found} → Says f → NoConflict js T → f ≡ Nothing
+  from_none : {f : Option ℕ} → Says f → NoConflict js T → f ≡ None
   from_none (first {k} c clear) n = absurd (n k c)
   from_none (none c) n = refl
 
@@ -181,8 +180,8 @@ module _ (T : Texts) where
   unfolding first_conflict
   said = says T (joined T) (length (joined T)) 0 (omega arith) (λ i h. absurd (omega arith))
 
-  pub first_conflict_iff : (k : ℕ) → (first_conflict T ≡ At k) ↔ FirstConflict (joined T) T (suc k)
+  pub first_conflict_iff : (k : ℕ) → (first_conflict T ≡ Some k) ↔ FirstConflict (joined T) T (suc k)
   first_conflict_iff k = (to_first T (joined T) said, from_first T (joined T) said)
 
-  pub no_conflict_iff : (first_conflict T ≡ Nothing) ↔ NoConflict (joined T) T
+  pub no_conflict_iff : (first_conflict T ≡ None) ↔ NoConflict (joined T) T
   no_conflict_iff = (to_none T (joined T) said, from_none T (joined T) said)

@@ -16,7 +16,7 @@ use Rattle.conflict.specs.Conflict.{destination_bytes, title_bytes, HasTitle, Di
 use Rattle.conflict.specs.Reading.{is_absent, differ}
 
 -- ---- tests
-was_true : (x : Bool) → not x ≡ false → x ≡ true
+pub was_true : (x : Bool) → not x ≡ false → x ≡ true
 was_true true e = refl
 was_true false e = sym e
 

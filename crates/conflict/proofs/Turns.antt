@@ -1,21 +1,17 @@
--- What the code meets: bytes compared one by one, and rows whose parts lie within their texts.
+-- What the code meets: bytes compared, and rows whose parts lie within their texts.
+use Rattle.std.specs.Prelude.{None, Option, Some}
 use Prim.Native.Nat.{ℕ, suc, ◌+◌, ◌-◌, ◌≤◌, ◌<◌}
 use native.Mathlib.Nat.{zero-add, sub-zero}
 use native.Mathlib.Omega.{arith}
 use mathlib.Core.Path.{◌≡◌, refl, sym, ap, ap₂, ◌∙◌, subst}
 use mathlib.Core.Logic.{inl, inr}
-use mathlib.Core.List.{List}
+use mathlib.Core.List.{List, [], ◌∷◌}
 use mathlib.Core.Bool.{Bool, true, false, beq, not, ◌&&◌}
-use borrow.Author.Tests.{eq-eqb, ne_eqb}
-use lib.ListN.{length, get_or, take, drop, length-map, drop_of_length-le}
+use lib.ListN.{length, take, length-map}
 use lib.Seq.{length-take-le}
 use lib.Dec.{eqb}
-use Rattle.scan.proofs.Test.{by}
-use Rattle.scan.proofs.Scan.{at_cons}
-use Rattle.scan.specs.declared.Found.{Found}
-use Rattle.scan.specs.declared.Found.TheVariants.{At, Nothing}
+use lib.Pointwise.{pointwise}
 use Rattle.matching.specs.Reading.{equals}
-use Rattle.matching.proofs.Equality.{equals_to}
 use Rattle.texts.specs.Texts.{Texts, text_of}
 use Rattle.row.specs.declared.Range.{Range}
 use Rattle.row.specs.declared.Definition.{Definition}
@@ -34,39 +30,13 @@ use Rattle.conflict.specs.Conflict.{label_bytes, destination_bytes, title_bytes,
 use Rattle.conflict.specs.Reading.{is_absent, differ, differs_from, conflicts, conflict_from, first_conflict, PartsWithin}
 use Rattle.conflict.proofs.Conflicts.{conflict_hit, conflict_miss}
 
--- ---- two parts, byte by byte
-module _ (a b : List ℕ) where
-  pub lengths_differ : (length a ≡ length b → ⊥) → false ≡ equals a b
-  lengths_differ n = sym (by (equals a b) (λ e. absurd (n (ap length (equals_to a b e)))) (λ e. e))
-
-  -- those before place i are the same
-  pub record SameBefore (i : ℕ) : Type 0 where
-    pub within : i ≤ length a
-    pub long : length a ≡ length b
-    pub rest : equals (drop i a) (drop i b) ≡ equals a b
-
-  module _ {i : ℕ} (s : SameBefore i) where
-    pub all_same : length a ≤ i → true ≡ equals a b
-    unfolding equals
-    all_same h = rw (drop_of_length-le a {i = i} h, drop_of_length-le b {i = i} (omega (arith, s.long))) at s.rest
-
-    module _ (h : i < length a) where
-      here : equals (drop i a) (drop i b) ≡ (eqb (get_or a i 0) (get_or b i 0) && equals (drop (i + 1) a) (drop (i + 1) b))
-      unfolding equals
-      here = rw (at_cons a i h, at_cons b i (omega (arith, s.long))) refl
-
-      pub other_byte : (get_or a i 0 ≡ get_or b i 0 → ⊥) → false ≡ equals a b
-      other_byte n = sym (here ∙ rw (ne_eqb (get_or a i 0) (get_or b i 0) n) refl) ∙ s.rest
-
-      pub same_byte : get_or a i 0 ≡ get_or b i 0 → SameBefore (i + 1)
-      same_byte e = record {
-        within = omega arith;
-        long = s.long;
-        rest = sym (here ∙ rw (eq-eqb (get_or a i 0) (get_or b i 0) e) refl) ∙ s.rest;
-      }
-
-  pub none_yet : length a ≡ length b → SameBefore 0
-  none_yet e = record { within = omega arith; long = e; rest = refl }
+-- ---- two parts
+pub same_bytes : (a b : List ℕ) → pointwise eqb a b ≡ equals a b
+unfolding equals
+same_bytes [] [] = refl
+same_bytes [] (y ∷ b) = refl
+same_bytes (x ∷ a) [] = refl
+same_bytes (x ∷ a) (y ∷ b) = ap (λ (t : Bool). eqb x y && t) (same_bytes a b)
 
 -- ---- the parts of a definition
 parts_lie : {s : List ℕ} {d : Definition} → Lies s d → PartsWithin s d
@@ -136,26 +106,25 @@ module _ {T : Texts} {t : List ℕ} (l : Listing T t) where
 
   -- what the lookup finds before row k
   module _ {k : ℕ} (h : k < length (joined T)) where
-    abbrev found : Found
+    abbrev found : Option ℕ
     found = row_of T t (label_bytes T (listed_at t k)) k
 
-    by_found : {f : Found} → found ≡ f → conflicts T (take k (joined T)) (entry (joined T) k) ≡ differs_from T (listed_from t 0 k) (listed_at t k) f
+    by_found : {f : Option ℕ} → found ≡ f → conflicts T (take k (joined T)) (entry (joined T) k) ≡ differs_from T (listed_from t 0 k) (listed_at t k) f
     unfolding row_of
     by_found e = rw (← e, row_entry l h, ← rows_taken l {k = k} (omega arith)) refl
 
     -- the label that is looked up is the row's
-    pub looked_up_lem : {f g : Found} {label : List ℕ} {x : ℕ} {d : Definition} → f ≡ row_of T t label k → label ≡ bytes_of (text_of T x) d.label → x ≡ text_at t k
-        → d ≡ definition_at t k → f ≡ g → found ≡ g
-    looked_up_lem e l x d g = sym (e ∙ rw (l, x, d) refl) ∙ g
+    pub looked_up_lem : {f g : Option ℕ} {label : List ℕ} → f ≡ row_of T t label k → label ≡ label_bytes T (listed_at t k) → f ≡ g → found ≡ g
+    looked_up_lem e l g = sym (e ∙ rw l refl) ∙ g
 
-    pub earlier : {j : ℕ} → found ≡ At j → j < k
+    pub earlier : {j : ℕ} → found ≡ Some j → j < k
     unfolding row_of
     earlier {j} e =
         let w = (first_equal (labels_of T (listed_from t 0 k)) (label_bytes T (listed_at t k)) j).0 e in
         let n = length-map (listed_from t 0 k) (λ (j : Listed). label_bytes T j) in
         omega (arith, w.within, n, ap length (rows_taken l {k = k} (omega arith)), length-take-le k (joined T) (omega arith))
 
-    pub by_row : {j : ℕ} {r : Bool} → found ≡ At j → r ≡ differ T (listed_at t j) (listed_at t k) → r ≡ conflicts T (take k (joined T)) (entry (joined T) k)
+    pub by_row : {j : ℕ} {r : Bool} → found ≡ Some j → r ≡ differ T (listed_at t j) (listed_at t k) → r ≡ conflicts T (take k (joined T)) (entry (joined T) k)
     unfolding differs_from
     by_row {j} e d =
         let z : entry (listed_from t 0 k) j ≡ listed_at t j = row_entry_before (earlier e) in
@@ -164,7 +133,7 @@ module _ {T : Texts} {t : List ℕ} (l : Listing T t) where
         row_entry_before : {i : ℕ} → i < k → entry (listed_from t 0 k) i ≡ listed_at t i
         row_entry_before {i} g = table_entry t 0 k i g ∙ ap (λ (n : ℕ). listed_at t n) (zero-add i)
 
-    pub by_none : found ≡ Nothing → false ≡ conflicts T (take k (joined T)) (entry (joined T) k)
+    pub by_none : found ≡ None → false ≡ conflicts T (take k (joined T)) (entry (joined T) k)
     unfolding differs_from
     by_none e = sym (by_found e)
 
@@ -180,7 +149,7 @@ module _ (T : Texts) {count : ℕ} where
   none_before e = record { counted = e; few = omega arith; rest = rw (sub-zero, e) refl }
 
   module _ {k : ℕ} (n : NoneBefore T count k) where
-    pub none_left : count ≤ k → Nothing ≡ first_conflict T
+    pub none_left : count ≤ k → None ≡ first_conflict T
     unfolding conflict_from
     none_left h = let z : count - k ≡ 0 = omega arith in rw z at n.rest
 
@@ -188,7 +157,7 @@ module _ (T : Texts) {count : ℕ} where
       less : count - k ≡ suc (count - (k + 1))
       less = omega arith
 
-      pub found_here : r ≡ true → At k ≡ first_conflict T
+      pub found_here : r ≡ true → Some k ≡ first_conflict T
       found_here t = sym (conflict_hit T (joined T) k (count - (k + 1)) (sym e ∙ t)) ∙ sym (ap (conflict_from T (joined T) k) less) ∙ n.rest
 
       pub next_none : r ≡ false → NoneBefore T count (k + 1)

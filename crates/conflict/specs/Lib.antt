@@ -1,3 +1,4 @@
 pub mod Conflict
 pub mod Reading
+pub mod Rows
 pub mod Samples

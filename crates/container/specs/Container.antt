@@ -1,27 +1,23 @@
 -- What a header line of the container says: six numbers of six digits, and a setting.
-use Rattle.std.specs.Prelude.{ℕ, ◌+◌, ◌-◌, ◌*◌, ◌≤◌, ◌≡◌, Bool, cond, ◌&&◌, ◌||◌, List, length, take, drop, get_or, eqb, ltb}
+use Rattle.std.specs.Prelude.{ℕ, ◌+◌, ◌-◌, ◌*◌, ◌≤◌, ◌≡◌, Bool, cond, ◌&&◌, ◌||◌, List, length, take, drop, get_or, eqb, ltb, Option, Some, None}
 use Rattle.scan.specs.Byte.{within}
 use Rattle.scan.specs.Reading.{Step, stop, next, scan}
-use Rattle.container.specs.declared.Number.{Number}
-use Rattle.container.specs.declared.Number.TheVariants as number
 use Rattle.container.specs.declared.Sizes.{Sizes}
-use Rattle.container.specs.declared.Header.{Header}
-use Rattle.container.specs.declared.Header.TheVariants as header
 
 -- `0` to `9`
 abbrev pub digit : ℕ → Bool
 digit = within 48 57
 
 -- one digit more after those of n, which are at most five
-unfoldable pub digit_step : ℕ → ℕ → List ℕ → Step ℕ Number
-digit_step n b s = cond (digit b && ltb n 100000) (next (n * 10 + (b - 48))) (stop number.Bad)
+unfoldable pub digit_step : ℕ → ℕ → List ℕ → Step ℕ (Option ℕ)
+digit_step n b s = cond (digit b && ltb n 100000) (next (n * 10 + (b - 48))) (stop None)
 
 -- the number that these digits make after those of n
-abbrev pub number_from : List ℕ → ℕ → Number
-number_from = scan digit_step number.Of
+abbrev pub number_from : List ℕ → ℕ → Option ℕ
+number_from = scan digit_step Some
 
 -- the number in the six bytes from `at` on
-abbrev pub field : List ℕ → ℕ → Number
+abbrev pub field : List ℕ → ℕ → Option ℕ
 field line at = number_from (take 6 (drop at line)) 0
 
 -- `0` or `1`
@@ -37,18 +33,18 @@ ruled line =
 abbrev pub sizes : ℕ → ℕ → ℕ → ℕ → ℕ → ℕ → Bool → Sizes
 sizes d n p k h l r = record { definitions = d; spans = n; page = p; note = k; sheet = h; label = l; release = r }
 
-abbrev pub header_of : Number → Number → Number → Number → Number → Number → Bool → Header
-header_of (number.Of d) (number.Of n) (number.Of p) (number.Of k) (number.Of h) (number.Of l) r = header.Case (sizes d n p k h l r)
-header_of number.Bad n p k h l r = header.Bad
-header_of (number.Of d) number.Bad p k h l r = header.Bad
-header_of (number.Of d) (number.Of n) number.Bad k h l r = header.Bad
-header_of (number.Of d) (number.Of n) (number.Of p) number.Bad h l r = header.Bad
-header_of (number.Of d) (number.Of n) (number.Of p) (number.Of k) number.Bad l r = header.Bad
-header_of (number.Of d) (number.Of n) (number.Of p) (number.Of k) (number.Of h) number.Bad r = header.Bad
+abbrev pub header_of : Option ℕ → Option ℕ → Option ℕ → Option ℕ → Option ℕ → Option ℕ → Bool → Option Sizes
+header_of (Some d) (Some n) (Some p) (Some k) (Some h) (Some l) r = Some (sizes d n p k h l r)
+header_of None n p k h l r = None
+header_of (Some d) None p k h l r = None
+header_of (Some d) (Some n) None k h l r = None
+header_of (Some d) (Some n) (Some p) None h l r = None
+header_of (Some d) (Some n) (Some p) (Some k) None l r = None
+header_of (Some d) (Some n) (Some p) (Some k) (Some h) None r = None
 
-abbrev pub line_of : List ℕ → Header
+abbrev pub line_of : List ℕ → Option Sizes
 line_of line =
-    cond (ruled line) (header_of (field line 0) (field line 7) (field line 14) (field line 21) (field line 28) (field line 35) (eqb (get_or line 42 0) 49)) header.Bad
+    cond (ruled line) (header_of (field line 0) (field line 7) (field line 14) (field line 21) (field line 28) (field line 35) (eqb (get_or line 42 0) 49)) None
 
 -- ---- what a case can be
 -- the program has so much to lend

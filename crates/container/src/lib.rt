@@ -5,7 +5,7 @@
 #![tactic(auto)]
 
 ghost use Rattle.std.specs.Prelude.{◌≡◌};
-ghost use Rattle.container.specs.Container.{number_from, setting, ruled, header_of, line_of};
+ghost use Rattle.container.specs.Container.{number_from, setting, ruled, line_of};
 
 // The length of a header line with its line end.
 pub const HEADER: usize = 44;
@@ -21,20 +21,6 @@ pub struct Sizes {
     pub sheet: usize,
     pub label: usize,
     pub release: bool,
-}
-
-// A decimal number, or bytes that are none.
-#[derive(Clone, Copy)]
-pub enum Number {
-    Of(usize),
-    Bad,
-}
-
-// What a header line says.
-#[derive(Clone, Copy)]
-pub enum Header {
-    Case(Sizes),
-    Bad,
 }
 
 // `0` or `1`.
@@ -59,83 +45,34 @@ fn is_ruled(line: &[u8]) -> bool
         & (scan::peek(line, 43) == 10)
 }
 
-// The header with these numbers and this setting.
-fn header_with(
-    definitions: Number,
-    spans: Number,
-    page: Number,
-    note: Number,
-    sheet: Number,
-    label: Number,
-    release: bool,
-) -> Header
-    ensures { result ≡ header_of definitions spans page note sheet label release }
+// What a header line says; none where it says nothing.
+pub fn read_header(line: &[u8]) -> Option<Sizes>
+    ensures { result ≡ line_of line.now }
 {
-    let Number::Of(definitions) = definitions else {
-        return Header::Bad;
-    };
-    let Number::Of(spans) = spans else {
-        return Header::Bad;
-    };
-    let Number::Of(page) = page else {
-        return Header::Bad;
-    };
-    let Number::Of(note) = note else {
-        return Header::Bad;
-    };
-    let Number::Of(sheet) = sheet else {
-        return Header::Bad;
-    };
-    let Number::Of(label) = label else {
-        return Header::Bad;
-    };
-    Header::Case(Sizes {
-        definitions,
-        spans,
-        page,
-        note,
-        sheet,
-        label,
-        release,
+    if !is_ruled(line) {
+        return None;
+    }
+    Some(Sizes {
+        definitions: read_number(&line[0..6])?,
+        spans: read_number(&line[7..13])?,
+        page: read_number(&line[14..20])?,
+        note: read_number(&line[21..27])?,
+        sheet: read_number(&line[28..34])?,
+        label: read_number(&line[35..41])?,
+        release: scan::peek(line, 42) == b'1',
     })
 }
 
-// What a header line says.
-pub fn read_header(line: &[u8]) -> Header
-    ensures { result ≡ line_of line.now }
-{
-    if is_ruled(line) {
-        let definitions = read_number(&line[0..6]);
-        let spans = read_number(&line[7..13]);
-        let page = read_number(&line[14..20]);
-        let note = read_number(&line[21..27]);
-        let sheet = read_number(&line[28..34]);
-        let label = read_number(&line[35..41]);
-        let release = scan::peek(line, 42) == b'1';
-        return header_with(definitions, spans, page, note, sheet, label, release);
-    }
-    Header::Bad
-}
-
-// The number that the digits of `text` make, at most six of them.
-pub fn read_number(text: &[u8]) -> Number
+// The number that the digits of `text` make, at most six of them; none otherwise.
+pub fn read_number(text: &[u8]) -> Option<usize>
     ensures { result ≡ number_from text.now 0 }
 {
     let mut n: usize = 0;
-    let mut i = 0;
-    while i < text.len() {
-        let b = text[i];
-        if b < 48 {
-            return Number::Bad;
+    for b in text {
+        if !b.is_ascii_digit() || n >= 100000 {
+            return None;
         }
-        if b > 57 {
-            return Number::Bad;
-        }
-        if n >= 100000 {
-            return Number::Bad;
-        }
-        n = n * 10 + (b - 48) as usize;
-        i += 1;
+        n = n * 10 + (b - b'0') as usize;
     }
-    Number::Of(n)
+    Some(n)
 }

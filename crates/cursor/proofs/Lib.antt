@@ -7,3 +7,4 @@ pub mod Found
 pub mod Entries
 pub mod Marks
 pub mod Starts
+pub mod Told

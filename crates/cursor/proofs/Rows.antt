@@ -1,11 +1,13 @@
 -- The rows of the table: which one waits next, and where its text ends.
-use Prim.Native.Nat.{ℕ, ◌+◌, ◌≤◌, ◌<◌}
+use Prim.Native.Nat.{ℕ, ◌+◌, ◌≤◌, ◌<◌, min, max}
 use native.Mathlib.Decide.{dec_lt}
 use native.Mathlib.Omega.{arith}
 use mathlib.Core.Path.{◌≡◌, refl, sym, ap, ◌∙◌, subst}
 use mathlib.Core.List.{List}
-use mathlib.Core.Bool.{true, false}
-use borrow.Author.Tests.{lt-ltb, le-ltb}
+use mathlib.Core.Bool.{true, false, cond}
+use lib.Dec.{ltb}
+use borrow.Author.Tests.{lt-ltb, le-ltb, ltb-true, ltb-false}
+use Rattle.scan.proofs.Test.{by}
 use Rattle.span.specs.declared.Span.{Span}
 use Rattle.span.specs.Row.{numbers_on, whole_rows, row_at}
 use Rattle.span.specs.Reading.{span_at, line_in}
@@ -17,6 +19,10 @@ use Rattle.cursor.specs.Cursor.{waits, Finds, closing_place}
 pub row_read : (u : List ℕ) {count k : ℕ} → count ≤ whole_rows u → k < count → {x : Span} → x ≡ span_at u k → numbers_on (line_in u k) x ≡ row_at u k
 row_read u {k = k} w h e = ap (numbers_on (line_in u k)) e ∙ numbers_at u k (omega arith)
 
+-- ---- the lesser of two
+pub lesser : (a b : ℕ) → min a b ≡ cond (ltb a b) a b
+lesser a b = by (ltb a b) (λ t. rw t (omega (arith, ltb-true a b t))) (λ t. rw t (omega (arith, ltb-false a b t)))
+
 -- ---- where its text ends, or the end
 module _ (u : List ℕ) (count k e : ℕ) where
   abbrev own : ℕ
@@ -25,17 +31,21 @@ module _ (u : List ℕ) (count k e : ℕ) where
   abbrev place : ℕ
   place = closing_place u count k e
 
-  pub row_first : k < count → own < e → place ≡ own
+  row_first : k < count → own < e → place ≡ own
   unfolding closing_place
   row_first h l = rw (lt-ltb k count h, lt-ltb own e l) refl
 
-  pub end_first : k < count → e ≤ own → place ≡ e
+  end_first : k < count → e ≤ own → place ≡ e
   unfolding closing_place
   end_first h l = rw (lt-ltb k count h, le-ltb own e l) refl
 
   pub no_row : count ≤ k → place ≡ e
   unfolding closing_place
   no_row h = rw (le-ltb k count h) refl
+
+  pub row_place : k < count → {x r : ℕ} → x ≡ own → r ≡ min x e → r ≡ place
+  unfolding closing_place
+  row_place h q f = f ∙ rw (q, lt-ltb k count h) (lesser own e)
 
   by_place : {P : Type 0} → (k < count → own < e → place ≡ own → P) → (place ≡ e → (k < count → e ≤ own) → P) → P
   by_place {P} f g = cases (dec_lt k count) (dec_lt own e)
@@ -77,5 +87,5 @@ module _ (u : List ℕ) (count : ℕ) (i start : ℕ) where
   pub found_there : {k : ℕ} → Passed k → waits i (row_at u k) ≡ true → Finds u count i start k
   found_there p t = record { passed = p; there = λ h. t }
 
-  pub none_there : {k : ℕ} → Passed k → count ≤ k → Finds u count i start k
-  none_there p l = record { passed = p; there = λ h. absurd (omega arith) }
+  pub none_there : {k r : ℕ} → Passed k → count ≤ k → r ≡ max start count → Finds u count i start r
+  none_there p l e = record { passed = λ j a b. p j a (omega arith); there = λ h. absurd (omega arith) }

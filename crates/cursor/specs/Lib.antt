@@ -1,3 +1,4 @@
 pub mod Spanned
 pub mod Cursor
 pub mod Starts
+pub mod Entries

@@ -2,31 +2,38 @@
 // the span table, which never goes back, tells the next link or image whose text ends.
 #![tactic(auto)]
 
-ghost use Rattle.std.specs.Prelude.{◌≡◌, ℕ, ◌+◌, ◌≤◌, ◌<◌, length, replicate};
-ghost use Rattle.scan.specs.Reading.{past, runs, past_strides};
+ghost use Rattle.std.specs.Prelude.{◌≡◌, ℕ, ◌+◌, ◌≤◌, ◌<◌, replicate};
+ghost use Rattle.scan.specs.Reading.{past};
 ghost use Rattle.span.specs.Row.{numbers_on, whole_rows};
 ghost use Rattle.cursor.specs.Cursor.{waits, Finds, closing_place};
-ghost use Rattle.cursor.specs.Starts.{places, free, entry_of, tags_in, index_in, Started, rows_from, Startable, described_from};
+ghost use Rattle.cursor.specs.Entries.{start_in};
+ghost use Rattle.cursor.specs.Starts.{places, free, entry_of, tags_in, Started, rows_from, Startable, described_from};
 
+use scan::Class;
 use span::Span;
 
 // A place for each byte that a note may have.
 pub const PLACES: usize = text::NOTE_LIMIT;
 
-// What is added to an entry of the table where no tags are written for its row.
+// ---- the table of places
+// Its memory is fixed, two bytes a place: an entry is 0 where no row starts, else the row's number from 1, and this much more where no tags
+// are written for the row.
 const SILENT: u16 = PLACES as u16;
 
-// ---- the table of places
+// A row, and whether tags are written for it.
+#[derive(Clone, Copy)]
+pub struct Start {
+    pub row: usize,
+    pub tags: bool,
+}
+
 // The entry of row `k`, with tags or without.
 fn entry_of(k: usize, tags: bool) -> u16
     requires { k + 1 < places }
     ensures { result ≡ entry_of k tags }
 {
     let number = (k + 1) as u16;
-    if tags {
-        return number;
-    }
-    number + SILENT
+    if tags { number } else { number + SILENT }
 }
 
 // Whether tags are written for the row of an entry.
@@ -36,25 +43,28 @@ pub fn has_tags(entry: u16) -> bool
     entry < SILENT
 }
 
-// The row of an entry that is not 0.
-pub fn row_of(entry: u16) -> usize
-    requires { 0 < entry }
-    ensures { result ≡ index_in entry }
+// The row that starts at the place of an entry.
+pub fn start_of(entry: u16) -> Option<Start>
+    ensures { result ≡ start_in entry }
 {
-    ((entry - 1) % SILENT) as usize
+    if entry == 0 {
+        return None;
+    }
+    Some(Start {
+        row: ((entry - 1) % SILENT) as usize,
+        tags: has_tags(entry),
+    })
 }
 
 // Where the first description starts of the images that were met: those before, and this row if it is one.
 fn described_from(row: Span, from: usize) -> usize
     ensures { (line : ℕ) → result ≡ described_from (numbers_on line row) from }
 {
-    if row.kind < Span::INLINE_IMAGE {
-        return from;
+    if row.is_image() {
+        row.text.start.min(from)
+    } else {
+        from
     }
-    if row.text.start < from {
-        return row.text.start;
-    }
-    from
 }
 
 // Fills the table, which is empty, with the first `count` rows. It goes from the last one back: an image stands after all that it holds, so
@@ -66,9 +76,7 @@ pub fn mark_starts(spans: &[u32], count: usize, starts: &mut [u16; PLACES])
     ensures { Started (rows_from spans.now 0 count) starts.new }
 {
     let mut from = PLACES;
-    let mut k = count;
-    while 0 < k {
-        k -= 1;
+    for k in (0..count).rev() {
         let row = span::span_at(spans, k);
         let at = row.whole.start;
         starts[at] = entry_of(k, at < from);
@@ -76,56 +84,23 @@ pub fn mark_starts(spans: &[u32], count: usize, starts: &mut [u16; PLACES])
     }
 }
 
-// Whether the four entries from `i` on are 0.
-fn four_free(starts: &[u16], i: usize) -> bool
-    requires { i + 4 ≤ length starts.now }
-    ensures { result ≡ runs free 4 starts.now i }
-{
-    (starts[i] == 0) & (starts[i + 1] == 0) & (starts[i + 2] == 0) & (starts[i + 3] == 0)
-}
+// The entries of places where no row starts.
+#[derive(Drop)]
+struct Free;
 
-// Whether sixteen entries stand from `i` on and are 0. None decides alone, so that they are compared at once.
-fn sixteen_free(starts: &[u16], i: usize) -> bool
-    ensures { result ≡ runs free 16 starts.now i }
-{
-    if starts.len() < 16 {
-        return false;
-    }
-    if starts.len() - 16 < i {
-        return false;
-    }
-    four_free(starts, i)
-        & four_free(starts, i + 4)
-        & four_free(starts, i + 8)
-        & four_free(starts, i + 12)
-}
+impl Class<u16> for Free {
+    ghost has = { λ _ e. free e };
 
-// Past the whole strides of sixteen entries from `at` on that are 0.
-fn past_free(starts: &[u16], at: usize) -> usize
-    ensures { result ≡ past_strides free starts.now at }
-{
-    let mut i = at;
-    while i < starts.len() {
-        if !sixteen_free(starts, i) {
-            return i;
-        }
-        i += 16;
+    fn holds(&self, entry: u16) -> bool {
+        entry == 0
     }
-    i
 }
 
 // The first place from `at` on where a row starts; the end of what is lent is one.
 pub fn next_start(starts: &[u16], at: usize) -> usize
     ensures { result ≡ past free starts.now at }
 {
-    let mut i = past_free(starts, at);
-    while i < starts.len() {
-        if starts[i] != 0 {
-            return i;
-        }
-        i += 1;
-    }
-    i
+    scan::past_long(starts, at, &Free)
 }
 
 // ---- the cursor
@@ -133,22 +108,20 @@ pub fn next_start(starts: &[u16], at: usize) -> usize
 fn row_waits(row: Span, at: usize) -> bool
     ensures { (line : ℕ) → result ≡ waits at (numbers_on line row) }
 {
-    (row.kind != Span::CODE_SPAN) & (at <= row.text.end)
+    !row.is_code_span() & (at <= row.text.end)
 }
 
-// The first row from row `start` on that waits, or `count`.
+// The first row from row `start` on that waits. It is a place in the table, and no `Option`: where no row waits, the cursor stands past the last.
 pub fn next_closing(spans: &[u32], count: usize, start: usize, at: usize) -> usize
     requires { count ≤ whole_rows spans.now }
     ensures { Finds spans.now count at start result }
 {
-    let mut k = start;
-    while k < count {
+    for k in start..count {
         if row_waits(span::span_at(spans, k), at) {
             return k;
         }
-        k += 1;
     }
-    k
+    start.max(count)
 }
 
 // Where the text of row `k` ends, or `end` if that comes first or there is no such row.
@@ -157,10 +130,8 @@ pub fn closing_place(spans: &[u32], count: usize, k: usize, end: usize) -> usize
     ensures { result ≡ closing_place spans.now count k end }
 {
     if k < count {
-        let row = span::span_at(spans, k);
-        if row.text.end < end {
-            return row.text.end;
-        }
+        span::span_at(spans, k).text.end.min(end)
+    } else {
+        end
     }
-    end
 }

@@ -1,4 +1,5 @@
 -- `definition_at` finds exactly the definition that starts at a place, and there is at most one.
+use Rattle.std.specs.Prelude.{None, Option, Some}
 use Prim.Native.Nat.{ℕ, ◌+◌, ◌-◌, ◌≤◌, ◌<◌}
 use native.Mathlib.Omega.{arith}
 use mathlib.Core.Path.{◌≡◌, refl, sym, ap, subst, ◌∙◌}
@@ -12,15 +13,12 @@ use Rattle.scan.proofs.Test.{by}
 use Rattle.scan.proofs.Scan.{peek_inside, at_cons}
 use Rattle.scan.specs.Reading.{past}
 use Rattle.scan.specs.Every.{other}
-use Rattle.scan.specs.declared.Found.{Found}
-use Rattle.scan.specs.declared.Found.TheVariants as found
 use Rattle.label.specs.Label.{LabelAt}
 use Rattle.label.specs.Reading.{label_end}
 use Rattle.label.proofs.Label.{label_end_iff}
 use Rattle.row.specs.declared.Definition.{Definition}
 use Rattle.definition.specs.Definition.{space, DefinitionAt}
-use Rattle.definition.specs.Reading.{after_label, with_label, after_indent, definition_at}
-use Rattle.definition.specs.declared.Entry.TheVariants.{Defined, Nothing}
+use Rattle.definition.specs.Reading.{after_label, entry, with_label, after_indent, definition_at}
 use Rattle.definition.proofs.Lines.{Left, left_one, LineEnded, LeftByLine, left_after, next_byte, front_run, Passed, passed}
 use Rattle.definition.proofs.Labelled.{never, defined_inj, or_nothing, Follows, after_label_iff, follows_place}
 
@@ -39,20 +37,20 @@ module _ (s : List ℕ) where
     pub e : ℕ
     pub bracket : get_or s i 0 ≡ 91
     pub is_a_label : LabelAt (drop (i + 1) s) (i + 1) e
-    pub reads : after_label s (i + 1) e ≡ Defined d n
+    pub reads : after_label s (i + 1) e ≡ Some (entry d n)
 
-  opened : (i : ℕ) (d : Definition) (n : ℕ) → after_indent s i ≡ Defined d n → Opened i d n
+  opened : (i : ℕ) (d : Definition) (n : ℕ) → after_indent s i ≡ Some (entry d n) → Opened i d n
   unfolding after_indent
   opened i d n q =
       by (eqb (get_or s i 0) 91)
       (λ t. go (eqb-true (get_or s i 0) 91 t) (label_end (drop (i + 1) s) (i + 1)) refl (rw t at q))
       (λ f. absurd (never (rw f at q)))
     where
-      go : get_or s i 0 ≡ 91 → (f : Found) → label_end (drop (i + 1) s) (i + 1) ≡ f → with_label s (i + 1) f ≡ Defined d n → Opened i d n
-      go b found.Nothing k r = absurd (never r)
-      go b (found.At e) k r = record { e = e; bracket = b; is_a_label = (label_end_iff (drop (i + 1) s) (i + 1) e).0 k; reads = r }
+      go : get_or s i 0 ≡ 91 → (f : Option ℕ) → label_end (drop (i + 1) s) (i + 1) ≡ f → with_label s (i + 1) f ≡ Some (entry d n) → Opened i d n
+      go b None k r = absurd (never r)
+      go b (Some e) k r = record { e = e; bracket = b; is_a_label = (label_end_iff (drop (i + 1) s) (i + 1) e).0 k; reads = r }
 
-  pub opens_at : (at : ℕ) (d : Definition) (n : ℕ) → definition_at s at ≡ Defined d n → (past space s at - at ≤ 3) × Opened (past space s at) d n
+  pub opens_at : (at : ℕ) (d : Definition) (n : ℕ) → definition_at s at ≡ Some (entry d n) → (past space s at - at ≤ 3) × Opened (past space s at) d n
   unfolding definition_at
   opens_at at d n q =
       let i = past space s at in
@@ -101,7 +99,7 @@ module _ (s : List ℕ) (at : ℕ) (h : at ≤ length s) where
         place = f.place;
       }
 
-  sound : (d : Definition) (n : ℕ) → definition_at s at ≡ Defined d n → DefinedAt s at d n
+  sound : (d : Definition) (n : ℕ) → definition_at s at ≡ Some (entry d n) → DefinedAt s at d n
   sound d n q = let (few, o) = opens_at s at d n q in is_defined refl few o
 
   -- ---- complete
@@ -153,7 +151,7 @@ module _ (s : List ℕ) (at : ℕ) (h : at ≤ length s) where
           place = w;
         }
 
-    complete : (n : ℕ) → Left s n rest → definition_at s at ≡ Defined d n
+    complete : (n : ℕ) → Left s n rest → definition_at s at ≡ Some (entry d n)
     unfolding definition_at after_indent
     complete n w =
         let p = places in
@@ -166,18 +164,18 @@ module _ (s : List ℕ) (at : ℕ) (h : at ≤ length s) where
         = omega (arith, m.label_start, m.label_ends_at, m.destination_start, m.destination_end) in
         follows_place s (opens + 1) ends m.gap m.body m.from m.content m.more places.after m.spaced m.destination (rw ez at m.ending)
 
-  pub definition_iff : (d : Definition) (n : ℕ) → (definition_at s at ≡ Defined d n) ↔ DefinedAt s at d n
+  pub definition_iff : (d : Definition) (n : ℕ) → (definition_at s at ≡ Some (entry d n)) ↔ DefinedAt s at d n
   definition_iff d n = (sound d n, λ m. complete d m.definition n m.place)
 
   -- a definition goes on to an LF, or to the end
-  pub definition_ended : (d : Definition) (n : ℕ) → definition_at s at ≡ Defined d n → LineEnded s n
+  pub definition_ended : (d : Definition) (n : ℕ) → definition_at s at ≡ Some (entry d n) → LineEnded s n
   definition_ended d n q =
       let m = sound d n q in
       let p = definition_place d m.definition in
       subst (LineEnded s) (left_one s m.rest p.place n p.left m.place) p.ended
 
   -- none is found exactly where none starts
-  pub no_definition_iff : (definition_at s at ≡ Nothing) ↔ ((d : Definition) (rest : List ℕ) → DefinitionAt (drop at s) at d rest → ⊥)
+  pub no_definition_iff : (definition_at s at ≡ None) ↔ ((d : Definition) (rest : List ℕ) → DefinitionAt (drop at s) at d rest → ⊥)
   no_definition_iff = (
     (λ q d rest m. let p = definition_place d m in never (sym q ∙ complete d m p.place p.left)),
     (λ f. or_nothing (definition_at s at) (λ d n q. let m = sound d n q in f d m.rest m.definition)),

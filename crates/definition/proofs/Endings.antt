@@ -1,4 +1,5 @@
 -- What follows a destination: `title_after` finds exactly a title with its line's end, and `ending_after` exactly what ends a definition.
+use Rattle.std.specs.Prelude.{None, Option, Some}
 use Prim.Native.Nat.{ℕ, ◌+◌, ◌≤◌, ◌<◌}
 use native.Mathlib.Omega.{arith}
 use mathlib.Core.Path.{◌≡◌, refl, sym, ap, subst, ◌∙◌}
@@ -10,14 +11,11 @@ use lib.ListN.{length, get_or, drop}
 use lib.Dec.{eqb}
 use Rattle.scan.proofs.Test.{by}
 use Rattle.scan.specs.Byte.{blank}
-use Rattle.scan.specs.declared.Found.{Found}
-use Rattle.scan.specs.declared.Found.TheVariants as found
 use Rattle.target.specs.Target.{Space, Title, TitleAt}
-use Rattle.target.specs.Reading.{space_run, title_of}
+use Rattle.target.specs.Reading.{space_run, part, title_of}
 use Rattle.target.specs.declared.Part.{Part}
-use Rattle.target.specs.declared.Part.TheVariants.{Span, Nothing}
 use Rattle.target.proofs.Space.{space_exact, space_run_iff}
-use Rattle.target.proofs.Delimited.{span_eq, never, or_nothing, placed_within}
+use Rattle.target.proofs.Delimited.{span_eq, same_part, never, or_nothing, placed_within}
 use Rattle.target.proofs.Titles.{title_iff, title_placed, title_front}
 use Rattle.definition.specs.Definition.{LineEnd, Titled, Ending, titled, untitled}
 use Rattle.definition.specs.Reading.{line_after, span_to, with_line, space_after, title_after, or_line, ending_after}
@@ -71,21 +69,19 @@ record LinedAt (s : List ℕ) (g a z k : ℕ) : Type 0 where
   is_title : TitleAt (drop g s) g a z m
   line : LineAt s m k
 
-lined : (s : List ℕ) (g a z k : ℕ) (t : Part) → title_of (drop g s) g ≡ t → with_line s t ≡ Span a z k → LinedAt s g a z k
-lined s g a z k Nothing q r = absurd (never r)
-lined s g a z k (Span b y m) q r = go (line_after s m) refl r
+lined : (s : List ℕ) (g a z k : ℕ) (t : Option Part) → title_of (drop g s) g ≡ t → with_line s t ≡ Some (part a z k) → LinedAt s g a z k
+lined s g a z k None q r = absurd (never r)
+lined s g a z k (Some p) q r = go (line_after s p.next) refl r
   where
-    go : (f : Found) → line_after s m ≡ f → span_to b y f ≡ Span a z k → LinedAt s g a z k
-    go found.Nothing e r = absurd (never r)
-    go (found.At x) e r =
-        let eb : b ≡ a = cc in
-        let ey : y ≡ z = cc in
-        let ex : x ≡ k = cc in
-        let i : TitleAt (drop g s) g a z m = rw (eb, ey) at ((title_iff (drop g s) g b y m).0 q) in
-        record { m = m; is_title = i; line = (line_after_iff s m (placed_within (title_placed i)).fits k).0 (e ∙ ap found.At ex) }
+    go : (f : Option ℕ) → line_after s p.next ≡ f → span_to p.start p.end f ≡ Some (part a z k) → LinedAt s g a z k
+    go None e r = absurd (never r)
+    go (Some x) e r =
+        let (eb, ey, ex) = same_part r in
+        let i : TitleAt (drop g s) g a z p.next = rw (eb, ey) at ((title_iff (drop g s) g p.start p.end p.next).0 q) in
+        record { m = p.next; is_title = i; line = (line_after_iff s p.next (placed_within (title_placed i)).fits k).0 (e ∙ ap Some ex) }
 
 module _ (s : List ℕ) (n : ℕ) (h : n ≤ length s) where
-  title_sound : (a z k : ℕ) → title_after s n ≡ Span a z k → TitledAt s n a z k
+  title_sound : (a z k : ℕ) → title_after s n ≡ Some (part a z k) → TitledAt s n a z k
   unfolding title_after
   title_sound a z k q =
       let g = space_after s n in
@@ -132,24 +128,24 @@ module _ (s : List ℕ) (n : ℕ) (h : n ≤ length s) where
       record { is_title = i; apart = λ z. omega (arith, t.apart); there = record { fits = w.fits; rest = w.rest } }
 
   title_complete : (k : ℕ) {before : ℕ} {content rest : List ℕ} → Titled (drop n s) before content rest → Left s k rest
-      → title_after s n ≡ Span (n + before) (n + before + length content) k
+      → title_after s n ≡ Some (part (n + before) (n + before + length content) k)
   unfolding title_after
   title_complete k {before} {content} t w =
       let f = find_title t in
       let g = space_after s n in
-      let l : line_after s (n + before + length content + 1) ≡ found.At k = line_complete s _ f.there.fits k (rw f.there.rest t.line) w in
+      let l : line_after s (n + before + length content + 1) ≡ Some k = line_complete s _ f.there.fits k (rw f.there.rest t.line) w in
       rw (ne_eqb g n f.apart, (title_iff (drop g s) g _ _ _).1 f.is_title, l)
 
   titled_place : {before : ℕ} {content rest : List ℕ} → Titled (drop n s) before content rest → LeftByLine s rest
   titled_place t = let f = find_title t in line_place s _ f.there.fits (rw f.there.rest t.line)
 
-  pub title_after_iff : (a z k : ℕ) → (title_after s n ≡ Span a z k) ↔ TitledAt s n a z k
+  pub title_after_iff : (a z k : ℕ) → (title_after s n ≡ Some (part a z k)) ↔ TitledAt s n a z k
   title_after_iff a z k = (
     title_sound a z k,
     (λ m. title_complete k m.is_titled m.place ∙ span_eq (sym m.start) (omega (arith, m.start, m.end)) refl),
   )
 
-  no_title : ((before : ℕ) (content left : List ℕ) → Titled (drop n s) before content left → ⊥) → title_after s n ≡ Nothing
+  no_title : ((before : ℕ) (content left : List ℕ) → Titled (drop n s) before content left → ⊥) → title_after s n ≡ None
   no_title f = or_nothing (title_after s n) (λ a z k q. let m = title_sound a z k q in f m.before m.content m.rest m.is_titled)
 
 -- ---- what ends a definition
@@ -177,7 +173,7 @@ module _ (s : List ℕ) (n : ℕ) (h : n ≤ length s) where
         title_place = inr (m.low, omega (arith, m.end), m.high);
       }
 
-  without : (k : ℕ) → title_after s n ≡ Nothing → LineAt s n k → EndingAt s n 0 0 k
+  without : (k : ℕ) → title_after s n ≡ None → LineAt s n k → EndingAt s n 0 0 k
   without k q m =
       record {
         rest = m.rest;
@@ -187,28 +183,26 @@ module _ (s : List ℕ) (n : ℕ) (h : n ≤ length s) where
         title_place = inl (refl, refl);
       }
 
-  ending_sound : (a z k : ℕ) → ending_after s n ≡ Span a z k → EndingAt s n a z k
+  ending_sound : (a z k : ℕ) → ending_after s n ≡ Some (part a z k) → EndingAt s n a z k
   unfolding ending_after
   ending_sound a z k q = go (title_after s n) refl q
     where
-      line : (f : Found) → title_after s n ≡ Nothing → line_after s n ≡ f → span_to 0 0 f ≡ Span a z k → EndingAt s n a z k
-      line found.Nothing e l r = absurd (never r)
-      line (found.At x) e l r =
-          let ea : 0 ≡ a = cc in
-          let ez : 0 ≡ z = cc in
-          let ex : x ≡ k = cc in
-          rw (← ea, ← ez) (without k e ((line_after_iff s n h k).0 (l ∙ ap found.At ex)))
+      line : (f : Option ℕ) → title_after s n ≡ None → line_after s n ≡ f → span_to 0 0 f ≡ Some (part a z k) → EndingAt s n a z k
+      line None e l r = absurd (never r)
+      line (Some x) e l r =
+          let (ea, ez, ex) = same_part r in
+          rw (← ea, ← ez) (without k e ((line_after_iff s n h k).0 (l ∙ ap Some ex)))
 
-      go : (t : Part) → title_after s n ≡ t → or_line s n t ≡ Span a z k → EndingAt s n a z k
-      go Nothing e r = line (line_after s n) e refl r
-      go (Span b y m) e r = with_title a z k ((title_after_iff s n h a z k).0 (e ∙ r))
+      go : (t : Option Part) → title_after s n ≡ t → or_line s n t ≡ Some (part a z k) → EndingAt s n a z k
+      go None e r = line (line_after s n) e refl r
+      go (Some p) e r = with_title a z k ((title_after_iff s n h a z k).0 (e ∙ r))
 
-  pub ending_complete : (k : ℕ) {a z : ℕ} {rest : List ℕ} → Ending (drop n s) n a z rest → Left s k rest → ending_after s n ≡ Span a z k
+  pub ending_complete : (k : ℕ) {a z : ℕ} {rest : List ℕ} → Ending (drop n s) n a z rest → Left s k rest → ending_after s n ≡ Some (part a z k)
   unfolding ending_after
   ending_complete k (titled t) w = rw (title_complete s n h k t w)
   ending_complete k (untitled f l) w = rw (no_title s n h f, line_complete s n h k l w)
 
-  pub ending_after_iff : (a z k : ℕ) → (ending_after s n ≡ Span a z k) ↔ EndingAt s n a z k
+  pub ending_after_iff : (a z k : ℕ) → (ending_after s n ≡ Some (part a z k)) ↔ EndingAt s n a z k
   ending_after_iff a z k = (ending_sound a z k, λ m. ending_complete k m.ending m.place)
 
   pub ending_place : {a z : ℕ} {rest : List ℕ} → Ending (drop n s) n a z rest → LeftByLine s rest

@@ -1,4 +1,5 @@
 -- What follows a label's closing bracket: `after_label` finds exactly a colon, a destination and what ends a definition.
+use Rattle.std.specs.Prelude.{None, Option, Some}
 use Prim.Native.Nat.{ℕ, ◌+◌, ◌≤◌, ◌<◌}
 use native.Mathlib.Omega.{arith}
 use mathlib.Core.Path.{◌≡◌, refl, sym, ap, subst, ◌∙◌}
@@ -10,28 +11,26 @@ use lib.Dec.{eqb}
 use Rattle.scan.proofs.Test.{by}
 use Rattle.scan.proofs.Scan.{peek_inside, at_cons}
 use Rattle.target.specs.Target.{Space, Destination, DestinationAt}
-use Rattle.target.specs.Reading.{destination_of}
+use Rattle.target.specs.Reading.{part, destination_of}
 use Rattle.target.specs.declared.Part.{Part}
-use Rattle.target.specs.declared.Part.TheVariants as part
 use Rattle.target.proofs.Delimited.{placed_within}
 use Rattle.target.proofs.Destinations.{destination_iff, destination_placed, destination_front}
 use Rattle.row.specs.declared.Definition.{Definition}
 use Rattle.definition.specs.Definition.{Ending}
-use Rattle.definition.specs.Reading.{space_after, ending_after, row, with_ending, with_destination, after_label}
+use Rattle.definition.specs.Reading.{space_after, ending_after, row, entry, with_ending, with_destination, after_label}
 use Rattle.definition.specs.declared.Entry.{Entry}
-use Rattle.definition.specs.declared.Entry.TheVariants.{Defined, Nothing}
 use Rattle.definition.proofs.Lines.{Left, next_byte, LeftByLine}
 use Rattle.definition.proofs.Endings.{spaced, space_there, TitlePlace, EndingAt, ending_after_iff, ending_complete, ending_place}
 
-pub never : {d : Definition} {n : ℕ} → Nothing ≡ Defined d n → ⊥
+pub never : {d : Definition} {n : ℕ} → None ≡ Some (entry d n) → ⊥
 never q = let z : ◌≡◌ {A = ℕ} 0 1 = cc in omega arith
 
-pub defined_inj : {c d : Definition} {m n : ℕ} → Defined c m ≡ Defined d n → (c ≡ d) × (m ≡ n)
-defined_inj q = ((cc), (cc))
+pub defined_inj : {c d : Definition} {m n : ℕ} → Some (entry c m) ≡ Some (entry d n) → (c ≡ d) × (m ≡ n)
+defined_inj {c} {d} {m} {n} q = let p : entry c m ≡ entry d n = cc in (ap (λ (e : Entry). e.definition) p, ap (λ (e : Entry). e.next) p)
 
-pub or_nothing : (e : Entry) → ((d : Definition) (n : ℕ) → e ≡ Defined d n → ⊥) → e ≡ Nothing
-or_nothing (Defined d n) f = absurd (f d n refl)
-or_nothing Nothing f = refl
+pub or_nothing : (e : Option Entry) → ((d : Definition) (n : ℕ) → e ≡ Some (entry d n) → ⊥) → e ≡ None
+or_nothing (Some e) f = absurd (f e.definition e.next refl)
+or_nothing None f = refl
 
 pub row_eq : {l e a z t u l' e' a' z' t' u' : ℕ} → l ≡ l' → e ≡ e' → a ≡ a' → z ≡ z' → t ≡ t' → u ≡ u' → row l e a z t u ≡ row l' e' a' z' t' u'
 row_eq h i j k m n = cc
@@ -67,27 +66,27 @@ module _ (s : List ℕ) (l e : ℕ) where
     t : ℕ
     u : ℕ
     colon : get_or s (e + 1) 0 ≡ 58
-    is_destination : destination_of (drop begins s) begins ≡ part.Span a z m
-    is_ending : ending_after s m ≡ part.Span t u n
+    is_destination : destination_of (drop begins s) begins ≡ Some (part a z m)
+    is_ending : ending_after s m ≡ Some (part t u n)
     is_row : row l e a z t u ≡ d
 
-  parts : (d : Definition) (n : ℕ) → after_label s l e ≡ Defined d n → Parts d n
+  parts : (d : Definition) (n : ℕ) → after_label s l e ≡ Some (entry d n) → Parts d n
   unfolding after_label
   parts d n q =
       by (eqb (get_or s (e + 1) 0) 58)
       (λ t. go (eqb-true (get_or s (e + 1) 0) 58 t) (destination_of (drop begins s) begins) refl (rw t at q))
       (λ f. absurd (never (rw f at q)))
     where
-      last : (a z m : ℕ) → get_or s (e + 1) 0 ≡ 58 → destination_of (drop begins s) begins ≡ part.Span a z m
-          → (p : Part) → ending_after s m ≡ p → with_ending l e a z p ≡ Defined d n → Parts d n
-      last a z m c i part.Nothing k r = absurd (never r)
-      last a z m c i (part.Span t u x) k r =
+      last : (a z m : ℕ) → get_or s (e + 1) 0 ≡ 58 → destination_of (drop begins s) begins ≡ Some (part a z m)
+          → (p : Option Part) → ending_after s m ≡ p → with_ending l e a z p ≡ Some (entry d n) → Parts d n
+      last a z m c i None k r = absurd (never r)
+      last a z m c i (Some p) k r =
           let (er, ex) = defined_inj r in
-          record { a = a; z = z; m = m; t = t; u = u; colon = c; is_destination = i; is_ending = k ∙ ap (part.Span t u) ex; is_row = er }
+          record { a = a; z = z; m = m; t = p.start; u = p.end; colon = c; is_destination = i; is_ending = k ∙ ap (λ (x : ℕ). Some (part p.start p.end x)) ex; is_row = er }
 
-      go : get_or s (e + 1) 0 ≡ 58 → (p : Part) → destination_of (drop begins s) begins ≡ p → with_destination s l e p ≡ Defined d n → Parts d n
-      go c part.Nothing i r = absurd (never r)
-      go c (part.Span a z m) i r = last a z m c i (ending_after s m) refl r
+      go : get_or s (e + 1) 0 ≡ 58 → (p : Option Part) → destination_of (drop begins s) begins ≡ p → with_destination s l e p ≡ Some (entry d n) → Parts d n
+      go c None i r = absurd (never r)
+      go c (Some p) i r = last p.start p.end p.next c i (ending_after s p.next) refl r
 
   -- where they stand
   pub record AfterPlaces (d : Definition) (n : ℕ) : Type 0 where
@@ -103,7 +102,7 @@ module _ (s : List ℕ) (l e : ℕ) where
   later h (inl p) = inl p
   later h (inr (x, y, z)) = inr (omega arith, y, z)
 
-  pub after_places : (d : Definition) (n : ℕ) → after_label s l e ≡ Defined d n → AfterPlaces d n
+  pub after_places : (d : Definition) (n : ℕ) → after_label s l e ≡ Some (entry d n) → AfterPlaces d n
   after_places d n q =
       let p = parts d n q in
       let i = (destination_iff _ _ p.a p.z p.m).0 p.is_destination in
@@ -149,7 +148,7 @@ module _ (s : List ℕ) (l e : ℕ) where
         place = f.place;
       }
 
-  after_sound : (d : Definition) (n : ℕ) → after_label s l e ≡ Defined d n → Follows s l e d n
+  after_sound : (d : Definition) (n : ℕ) → after_label s l e ≡ Some (entry d n) → Follows s l e d n
   after_sound d n q =
       let p = parts d n q in
       let i = (destination_iff _ _ p.a p.z p.m).0 p.is_destination in
@@ -180,18 +179,18 @@ module _ (s : List ℕ) (l e : ℕ) where
     pub follows_place : {t u : ℕ} {rest : List ℕ} → Ending more (start + length content + from) t u rest → LeftByLine s rest
     follows_place {t} {u} g = let f = find_parts in ending_place s _ f.there.fits {a = t} {z = u} (rw f.there.rest g)
 
-    follows_found : {t u n : ℕ} {rest : List ℕ} → Ending more (start + length content + from) t u rest → Left s n rest → after_label s l e ≡ Defined (row l e start (start + length content) t u) n
+    follows_found : {t u n : ℕ} {rest : List ℕ} → Ending more (start + length content + from) t u rest → Left s n rest → after_label s l e ≡ Some (entry (row l e start (start + length content) t u) n)
     unfolding after_label
     follows_found {t} {u} {n} g w =
         let f = find_parts in
-        let k : ending_after s (start + length content + from) ≡ part.Span t u n = ending_complete s _ f.there.fits n (rw f.there.rest g) w in
+        let k : ending_after s (start + length content + from) ≡ Some (part t u n) = ending_complete s _ f.there.fits n (rw f.there.rest g) w in
         rw (eq-eqb (get_or s (e + 1) 0) 58 f.colon, (destination_iff _ _ _ _ _).1 f.is_destination, k)
 
-  after_complete : (d : Definition) (n : ℕ) → Follows s l e d n → after_label s l e ≡ Defined d n
+  after_complete : (d : Definition) (n : ℕ) → Follows s l e d n → after_label s l e ≡ Some (entry d n)
   after_complete d n f =
       let ez : d.destination.end ≡ e + 2 + length f.gap + f.from + length f.content = omega (arith, f.destination_start, f.destination_end) in
       follows_found f.gap f.body f.from f.content f.more f.whole f.spaced f.destination (rw ez at f.ending) f.place
-      ∙ ap (λ (x : Definition). Defined x n) (row_eq (sym f.label_start) (sym f.label_ends_at) (sym f.destination_start) (sym ez) refl refl)
+      ∙ ap (λ (x : Definition). Some (entry x n)) (row_eq (sym f.label_start) (sym f.label_ends_at) (sym f.destination_start) (sym ez) refl refl)
 
-  pub after_label_iff : (d : Definition) (n : ℕ) → (after_label s l e ≡ Defined d n) ↔ Follows s l e d n
+  pub after_label_iff : (d : Definition) (n : ℕ) → (after_label s l e ≡ Some (entry d n)) ↔ Follows s l e d n
   after_label_iff d n = (after_sound d n, after_complete d n)

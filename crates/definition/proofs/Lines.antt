@@ -1,4 +1,5 @@
 -- Places of what follows in a text; and `line_after` finds exactly the end of a line.
+use Rattle.std.specs.Prelude.{None, Some}
 use Prim.Native.Nat.{ℕ, ◌+◌, ◌-◌, ◌≤◌, ◌<◌}
 use native.Mathlib.Omega.{arith}
 use mathlib.Core.Path.{◌≡◌, refl, sym, ap, ◌∙◌}
@@ -14,7 +15,6 @@ use Rattle.scan.specs.Reading.{run, past}
 use Rattle.scan.proofs.Scan.{at_cons}
 use Rattle.scan.specs.Every.{Every, Halts, empty, other}
 use Rattle.scan.proofs.Every.{run_iff}
-use Rattle.scan.specs.declared.Found.TheVariants.{At, Nothing}
 use Rattle.block.specs.Line.{padding, EndOfLine, feed, end}
 use Rattle.definition.specs.Definition.{LineEnd}
 use Rattle.definition.specs.Reading.{line_after}
@@ -98,10 +98,10 @@ pub record LineAt (s : List ℕ) (n k : ℕ) : Type 0 where
   pub place : Left s k rest
   pub onward : n ≤ k
 
-pub at_inj : {d e : ℕ} → At d ≡ At e → d ≡ e
+pub at_inj : {d e : ℕ} → Some d ≡ Some e → d ≡ e
 at_inj q = cc
 
-never : {e : ℕ} → Nothing ≡ At e → ⊥
+never : {e : ℕ} → None ≡ Some e → ⊥
 never q = let z : ◌≡◌ {A = ℕ} 0 1 = cc in omega arith
 
 module _ (s : List ℕ) (n : ℕ) (h : n ≤ length s) where
@@ -114,7 +114,7 @@ module _ (s : List ℕ) (n : ℕ) (h : n ≤ length s) where
         onward = omega (arith, p.place);
       }
 
-  line_sound : (k : ℕ) → line_after s n ≡ At k → LineAt s n k
+  line_sound : (k : ℕ) → line_after s n ≡ Some k → LineAt s n k
   unfolding line_after
   line_sound k q =
       let p = passed padding s n h in
@@ -132,19 +132,19 @@ module _ (s : List ℕ) (n : ℕ) (h : n ≤ length s) where
       ended k p w feed (left_moved e (next_byte s i 10 (drop (i + 1) s) (rw w at p.there)).after) (omega arith))
       (λ t. absurd (never (rw (f, t) at q))))
 
-  found_end : {k i : ℕ} {ending rest : List ℕ} → past padding s n ≡ i → EndOfLine ending rest → Left s i ending → Left s k rest → line_after s n ≡ At k
+  found_end : {k i : ℕ} {ending rest : List ℕ} → past padding s n ≡ i → EndOfLine ending rest → Left s i ending → Left s k rest → line_after s n ≡ Some k
   unfolding line_after
   found_end {k} {i} e (feed {rest}) w v =
       let b = next_byte s i 10 rest w in
-      rw (e, lt-leb (length s) i b.inside, eq-eqb (get_or s i 0) 10 b.byte) (ap At (left_one s rest (i + 1) k b.after v))
+      rw (e, lt-leb (length s) i b.inside, eq-eqb (get_or s i 0) 10 b.byte) (ap Some (left_one s rest (i + 1) k b.after v))
   found_end {k} {i} e end w v =
-      rw (e, le-leb (length s) i (omega (arith, ap length w.rest, length-drop i s))) (ap At (left_one s [] i k w v))
+      rw (e, le-leb (length s) i (omega (arith, ap length w.rest, length-drop i s))) (ap Some (left_one s [] i k w v))
 
   line_halts : {ending rest : List ℕ} → EndOfLine ending rest → Halts padding ending
   line_halts feed = other refl
   line_halts end = empty
 
-  pub line_complete : (k : ℕ) {rest : List ℕ} → LineEnd (drop n s) rest → Left s k rest → line_after s n ≡ At k
+  pub line_complete : (k : ℕ) {rest : List ℕ} → LineEnd (drop n s) rest → Left s k rest → line_after s n ≡ Some k
   line_complete k l w =
       found_end (front_run padding s n l.whole l.padded (line_halts l.ended)) l.ended (left_after s n l.pad l.ending h l.whole) w
 
@@ -158,5 +158,5 @@ module _ (s : List ℕ) (n : ℕ) (h : n ≤ length s) where
   pub line_place : {rest : List ℕ} → LineEnd (drop n s) rest → LeftByLine s rest
   line_place l = end_place l.ended (left_after s n l.pad l.ending h l.whole)
 
-  pub line_after_iff : (k : ℕ) → (line_after s n ≡ At k) ↔ LineAt s n k
+  pub line_after_iff : (k : ℕ) → (line_after s n ≡ Some k) ↔ LineAt s n k
   line_after_iff k = (line_sound k, λ m. line_complete k m.line m.place)

@@ -1,4 +1,5 @@
 -- "An end of line is its LF, taken with it, or the note's end": each definition of a note goes on to the one or to the other.
+use Rattle.std.specs.Prelude.{None, Option, Some}
 use Prim.Native.Nat.{ℕ, ◌+◌, ◌-◌, ◌≤◌, ◌<◌}
 use native.Mathlib.Nat.{zero-add}
 use native.Mathlib.Omega.{arith}
@@ -14,8 +15,7 @@ use Rattle.block.proofs.Lines.{LineBefore, starts}
 use Rattle.block.proofs.Maximal.{block_iff}
 use Rattle.block.proofs.Places.{block_within}
 use Rattle.row.specs.declared.Definition.{Definition}
-use Rattle.definition.specs.Reading.{definition_at, up_to_end}
-use Rattle.definition.specs.declared.Entry.TheVariants.{Defined}
+use Rattle.definition.specs.Reading.{entry, definition_at, up_to_end}
 use Rattle.definition.proofs.Lines.{LineEnded}
 use Rattle.definition.proofs.Definitions.{definition_ended}
 use Rattle.definition.proofs.Places.{definition_onward}
@@ -72,7 +72,7 @@ module _ (s : List ℕ) (b : Placed) (mem : Memᴰ b (blocks s)) where
   in_note n h k (inr e) = subst (LineEnded s) (sym (e ∙ end_length s b (block_within s mem))) block_ended
 
   -- so does each definition of a block
-  pub definition_in_note : (at : ℕ) (d : Definition) (n : ℕ) → definition_at (up_to_end s b) at ≡ Defined d n → LineEnded s n
+  pub definition_in_note : (at : ℕ) (d : Definition) (n : ℕ) → definition_at (up_to_end s b) at ≡ Some (entry d n) → LineEnded s n
   definition_in_note at d n q =
       let (x, y) = definition_onward (up_to_end s b) at d n q in
       let z = end_length s b (block_within s mem) in

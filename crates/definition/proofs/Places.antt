@@ -1,4 +1,5 @@
 -- Where a definition's parts stand: in order, and within the text.
+use Rattle.std.specs.Prelude.{None, Option, Some}
 use Prim.Native.Nat.{ℕ, ◌+◌, ◌≤◌, ◌<◌}
 use native.Mathlib.Omega.{arith}
 use mathlib.Core.Path.{◌≡◌}
@@ -8,8 +9,7 @@ use lib.ListN.{length}
 use Rattle.scan.specs.Reading.{past}
 use Rattle.row.specs.declared.Definition.{Definition}
 use Rattle.definition.specs.Definition.{space}
-use Rattle.definition.specs.Reading.{definition_at}
-use Rattle.definition.specs.declared.Entry.TheVariants.{Defined}
+use Rattle.definition.specs.Reading.{entry, definition_at}
 use Rattle.definition.proofs.Endings.{TitlePlace}
 use Rattle.definition.proofs.Labelled.{after_places}
 use Rattle.definition.proofs.Definitions.{opens_at}
@@ -41,7 +41,7 @@ title_inside : {z t u n k : ℕ} → TitlePlace z t u n → n ≤ k → (t ≤ k
 title_inside (inl (x, y)) h = (omega arith, omega arith)
 title_inside (inr (x, y, z)) h = (omega arith, omega arith)
 
-module _ (s : List ℕ) (at : ℕ) (d : Definition) (n : ℕ) (q : definition_at s at ≡ Defined d n) where
+module _ (s : List ℕ) (at : ℕ) (d : Definition) (n : ℕ) (q : definition_at s at ≡ Some (entry d n)) where
   pub definition_places : DefinitionPlaces s at d n
   definition_places =
       let o = (opens_at s at d n q).1 in

@@ -1,4 +1,5 @@
 -- Definitions taken one after the other: `definitions_from` takes exactly those of the law, and a loop over a block meets them in turn.
+use Rattle.std.specs.Prelude.{None, Option, Some}
 use Prim.Native.Nat.{ℕ, zero, suc, ◌+◌, ◌≤◌}
 use native.Mathlib.Omega.{arith}
 use mathlib.Core.Path.{◌≡◌, refl, sym, ap, subst, ◌∙◌}
@@ -8,9 +9,8 @@ use lib.ListN.{length, drop, replicate, length-replicate, length-append, length-
 use lib.Seq.{drop_at}
 use Rattle.row.specs.declared.Definition.{Definition}
 use Rattle.definition.specs.Definition.{DefinitionAt, Taken, over, taken}
-use Rattle.definition.specs.Reading.{definition_at, Taking, taking_from, definitions_from}
+use Rattle.definition.specs.Reading.{entry, definition_at, Taking, taking_from, definitions_from}
 use Rattle.definition.specs.declared.Entry.{Entry}
-use Rattle.definition.specs.declared.Entry.TheVariants.{Defined, Nothing}
 use Rattle.definition.proofs.Lines.{Left, left_moved}
 use Rattle.definition.proofs.Definitions.{definition_iff, no_definition_iff, definition_place}
 use Rattle.definition.proofs.Places.{definition_onward}
@@ -21,9 +21,9 @@ none_from at = record { definitions = []; after = at }
 abbrev pub one_more : Definition → Taking → Taking
 one_more d t = record { definitions = d ∷ t.definitions; after = t.after }
 
-pub by_entry : {P : Type 0} (e : Entry) → (e ≡ Nothing → P) → ((d : Definition) (n : ℕ) → e ≡ Defined d n → P) → P
-by_entry (Defined d n) f g = g d n refl
-by_entry Nothing f g = f refl
+pub by_entry : {P : Type 0} (e : Option Entry) → (e ≡ None → P) → ((d : Definition) (n : ℕ) → e ≡ Some (entry d n) → P) → P
+by_entry (Some e) f g = g e.definition e.next refl
+by_entry None f g = f refl
 
 -- t is what the law takes from place `at` on, and what is left lies within s
 pub record Takes (s : List ℕ) (at : ℕ) (t : Taking) : Type 0 where
@@ -32,16 +32,16 @@ pub record Takes (s : List ℕ) (at : ℕ) (t : Taking) : Type 0 where
   pub high : t.after ≤ length s
 
 module _ (s : List ℕ) where
-  pub from_none : (k at : ℕ) → definition_at s at ≡ Nothing → taking_from k s at ≡ none_from at
+  pub from_none : (k at : ℕ) → definition_at s at ≡ None → taking_from k s at ≡ none_from at
   unfolding taking_from
   from_none zero at e = refl
   from_none (suc k) at e = rw e
 
-  pub from_one : (k at : ℕ) (d : Definition) (n : ℕ) → definition_at s at ≡ Defined d n → taking_from (suc k) s at ≡ one_more d (taking_from k s n)
+  pub from_one : (k at : ℕ) (d : Definition) (n : ℕ) → definition_at s at ≡ Some (entry d n) → taking_from (suc k) s at ≡ one_more d (taking_from k s n)
   unfolding taking_from
   from_one k at d n e = rw e
 
-  past_none : (at : ℕ) → length s ≤ at → definition_at s at ≡ Nothing
+  past_none : (at : ℕ) → length s ≤ at → definition_at s at ≡ None
   past_none at h = by_entry (definition_at s at) (λ e. e) (λ d n e. let no : ⊥ = omega (arith, definition_onward s at d n e) in absurd no)
 
   -- enough turns are enough
@@ -55,18 +55,18 @@ module _ (s : List ℕ) where
       from_one k at d n e ∙ ap (one_more d) (enough k j n (omega arith) (omega arith)) ∙ sym (from_one j at d n e))
 
   -- ---- the turns of a loop over a block
-  pub turn_over : (at : ℕ) → definition_at s at ≡ Nothing → definitions_from s at ≡ none_from at
+  pub turn_over : (at : ℕ) → definition_at s at ≡ None → definitions_from s at ≡ none_from at
   unfolding definitions_from
   turn_over at e = from_none (length s) at e
 
-  pub turn_taken : (at : ℕ) (d : Definition) (n : ℕ) → definition_at s at ≡ Defined d n → definitions_from s at ≡ one_more d (definitions_from s n)
+  pub turn_taken : (at : ℕ) (d : Definition) (n : ℕ) → definition_at s at ≡ Some (entry d n) → definitions_from s at ≡ one_more d (definitions_from s n)
   unfolding definitions_from
   turn_taken at d n e =
       let (x, y) = definition_onward s at d n e in
       enough (length s) (suc (length s)) at (omega arith) (omega arith) ∙ from_one (length s) at d n e
 
   -- ---- what is taken is what the law takes, and what is left follows it
-  takes_none : (at : ℕ) → at ≤ length s → definition_at s at ≡ Nothing → Takes s at (none_from at)
+  takes_none : (at : ℕ) → at ≤ length s → definition_at s at ≡ None → Takes s at (none_from at)
   takes_none at h e = record { by_law = over (λ d rest m. (no_definition_iff s at h).0 e d _ m); low = omega arith; high = h }
 
   takes : (k at : ℕ) → length s ≤ at + k → at ≤ length s → Takes s at (taking_from k s at)
@@ -91,7 +91,7 @@ module _ (s : List ℕ) where
 
   -- the next definition, and its place by what it leaves
   next_one : {at next : ℕ} {d : Definition} {rest : List ℕ} → at ≤ length s → DefinitionAt (drop at s) at d rest → at + length (drop at s) ≡ next + length rest
-      → (definition_at s at ≡ Defined d next) × Left s next rest
+      → (definition_at s at ≡ Some (entry d next)) × Left s next rest
   next_one {at} {next} {d} {rest} h m here =
       let p = definition_place s at h d m in
       let w = p.left in

@@ -1,12 +1,11 @@
 -- Equal labels get one answer.
+use Rattle.std.specs.Prelude.{Err, Ok}
 use Prim.Native.Nat.{ℕ}
 use mathlib.Core.Path.{◌≡◌, refl, ap}
 use mathlib.Core.Bool.{true}
 use mathlib.Core.List.{List}
-use Rattle.texts.specs.declared.Checked.{Checked}
-use Rattle.texts.specs.declared.Checked.TheVariants as checked
 use Rattle.texts.specs.Texts.{Texts}
-use Rattle.texts.specs.Reading.{check_of}
+use Rattle.texts.specs.Reading.{Checked, check_of}
 use Rattle.matching.specs.Form.{Equal}
 use Rattle.matching.specs.Reading.{matches}
 use Rattle.matching.proofs.Equality.{matches_equal}
@@ -14,7 +13,7 @@ use Rattle.row.specs.First.{labels_of}
 use Rattle.row.proofs.First.{match_alike}
 use Rattle.joined.specs.Reading.{joined}
 use Rattle.enquiry.specs.Answers.{GoodLabel}
-use Rattle.enquiry.specs.Reading.{good_label, answer_at, answer_in, answer_for, checked_enquiry, enquiry_of}
+use Rattle.enquiry.specs.Reading.{good_label, answer_at, answer_in, answer_for, or_undefined, checked_enquiry, enquiry_of}
 use Rattle.enquiry.proofs.Answers.{good_label_lem}
 
 module _ (T : Texts) (a b : List ℕ) where
@@ -23,9 +22,8 @@ module _ (T : Texts) (a b : List ℕ) where
   found_alike m = ap (answer_at (joined T)) (match_alike 0 (labels_of T (joined T)) a b m)
 
   checked_alike : matches a b ≡ true → good_label a ≡ true → good_label b ≡ true → (x : Checked) → checked_enquiry T a x ≡ checked_enquiry T b x
-  checked_alike m p q (checked.Long k n) = refl
-  checked_alike m p q (checked.Bad k n) = refl
-  checked_alike m p q checked.Good = rw (p, q) (found_alike m)
+  checked_alike m p q (Err f) = refl
+  checked_alike m p q (Ok done) = rw (p, q) (ap or_undefined (found_alike m))
 
   pub one_enquiry : Equal a b → GoodLabel a → GoodLabel b → enquiry_of T a ≡ enquiry_of T b
   unfolding enquiry_of

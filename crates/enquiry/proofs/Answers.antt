@@ -1,4 +1,5 @@
 -- The reading is the law: `enquiry_of` is the one answer that documents 01 and 02 admit.
+use Rattle.std.specs.Prelude.{None, Option, Some, is_none, Err, Ok}
 use Prim.Native.Nat.{ℕ, suc, ◌≤◌, ◌<◌}
 use native.Mathlib.Nat.{add-zero}
 use native.Mathlib.Omega.{arith}
@@ -10,16 +11,13 @@ use mathlib.Core.Bool.{true, false, true≢false}
 use lib.ListN.{length, get_or, take, drop, take-append-drop, length-map}
 use lib.Seq.{length-take-le, drop-cons, get_or-append-add}
 use Rattle.scan.proofs.Test.{by, and_left, and_right}
-use Rattle.scan.specs.declared.Found.{Found}
-use Rattle.scan.specs.declared.Found.TheVariants as found
 use Rattle.text.specs.Reading.{first_bad}
 use Rattle.text.proofs.FirstBad.{first_bad_nothing}
 use Rattle.text.proofs.Clean.{good_text}
-use Rattle.texts.specs.declared.Checked.{Checked}
-use Rattle.texts.specs.declared.Checked.TheVariants as checked
+use Rattle.texts.specs.declared.Fault.TheVariants as fault
 use Rattle.texts.specs.Texts.{Texts, texts, text_of}
 use Rattle.texts.specs.Answers.{GoodTexts}
-use Rattle.texts.specs.Reading.{check_of}
+use Rattle.texts.specs.Reading.{Checked, check_of}
 use Rattle.texts.proofs.Refusals.{check_long, check_bad, good_texts}
 use Rattle.label.specs.Reading.{is_label}
 use Rattle.label.proofs.Label.{is_label_iff}
@@ -33,23 +31,24 @@ use Rattle.walk.proofs.Places.{Lies, definitions_lie}
 use Rattle.joined.specs.Reading.{joined}
 use Rattle.joined.proofs.Joined.{joined_some, joined_one}
 use Rattle.joined.proofs.Places.{each_entry}
-use Rattle.enquiry.specs.declared.Enquiry.{Enquiry}
-use Rattle.enquiry.specs.declared.Enquiry.TheVariants as enquiry
+use Rattle.enquiry.specs.declared.Destination.{Destination}
+use Rattle.enquiry.specs.declared.Refusal.TheVariants.{Long, Bad, NotLabel, Undefined}
+use Rattle.enquiry.specs.Enquiry.{Enquiry}
 use Rattle.enquiry.specs.Answers.{NoLabel, GoodLabel, ListOf, NoDefinition, Defines, Answers}
 use Rattle.enquiry.specs.Answers as law
-use Rattle.enquiry.specs.Reading.{nowhere, good_label, answer_by, answer_at, answer_in, answer_for, checked_enquiry, enquiry_of}
+use Rattle.enquiry.specs.Reading.{good_label, answer_by, answer_at, answer_in, answer_for, or_undefined, checked_enquiry, enquiry_of}
 
 -- ---- the label
-was_nowhere : (f : Found) → nowhere f ≡ true → f ≡ found.Nothing
-was_nowhere (found.At k) e = absurd (true≢false (sym e))
-was_nowhere found.Nothing e = refl
+was_nowhere : (f : Option ℕ) → is_none f ≡ true → f ≡ None
+was_nowhere (Some k) e = absurd (true≢false (sym e))
+was_nowhere None e = refl
 
 module _ (label : List ℕ) where
   pub good_label_lem : (good_label label ≡ true) ↔ GoodLabel label
   unfolding good_label
   good_label_lem = (
     λ e. record {
-      is_a_label = (is_label_iff label).0 (and_left _ (nowhere (first_bad label 0)) e);
+      is_a_label = (is_label_iff label).0 (and_left _ (is_none (first_bad label 0)) e);
       clean = (good_text label).0 ((first_bad_nothing label).0 (was_nowhere (first_bad label 0) (and_right (is_label label) _ e)));
     },
     λ g. rw ((is_label_iff label).1 g.is_a_label, (first_bad_nothing label).1 ((good_text label).1 g.clean)),
@@ -84,15 +83,15 @@ module _ (T : Texts) where
   defines_lies {j = j} m = each_entry T Lies definitions_lie j (rw (no_others m.all) (Memᴰ.append_right m.before (Memᴰ.head refl)))
 
   module _ (label : List ℕ) where
-    search_none : NoDefinition T label → answer_for T label ≡ enquiry.Undefined
+    search_none : NoDefinition T label → answer_for T label ≡ None
     unfolding answer_for answer_in
     search_none m = rw (no_others m.all, (none_equal (labels_of T m.list) label).1 m.none)
 
-    search_first : {j : Listed} → Defines T label j → answer_for T label ≡ answer_by j
+    search_first : {j : Listed} → Defines T label j → answer_for T label ≡ Some (answer_by j)
     unfolding answer_for answer_in
     search_first {j} m =
         rw (no_others m.all, (first_equal (labels_of T (m.before ++ j ∷ m.after)) label (length m.before)).1 m.first)
-        (ap answer_by (at_split past_end m.before j m.after))
+        (ap (λ (x : Listed). Some (answer_by x)) (at_split past_end m.before j m.after))
 
     first_defines : (k : ℕ) → FirstEqual (labels_of T (joined T)) label k → Defines T label (get_or (joined T) k past_end)
     first_defines k f =
@@ -108,20 +107,20 @@ module _ (T : Texts) where
         }
 
     module _ (g : GoodTexts T) (l : GoodLabel label) where
-      searched : (f : Found) → first_match (labels_of T (joined T)) label ≡ f → Answers T label (answer_at (joined T) f)
-      searched (found.At k) q = law.destination (g, l, first_defines k ((first_equal (labels_of T (joined T)) label k).0 q))
-      searched found.Nothing q = law.undefined (g, l, record { list = joined T; all = its_list; none = (none_equal (labels_of T (joined T)) label).0 q })
+      searched : (f : Option ℕ) → first_match (labels_of T (joined T)) label ≡ f → Answers T label (or_undefined (answer_at (joined T) f))
+      searched (Some k) q = law.destination (g, l, first_defines k ((first_equal (labels_of T (joined T)) label k).0 q))
+      searched None q = law.undefined (g, l, record { list = joined T; all = its_list; none = (none_equal (labels_of T (joined T)) label).0 q })
 
-      good_answer : Answers T label (answer_for T label)
+      good_answer : Answers T label (or_undefined (answer_for T label))
       unfolding answer_for answer_in
       good_answer = searched (first_match (labels_of T (joined T)) label) refl
 
 -- ---- the answer
 module _ (T : Texts) (label : List ℕ) where
   by_check : (x : Checked) → check_of T ≡ x → Answers T label (checked_enquiry T label x)
-  by_check (checked.Long k n) q = let (d, s) = (check_long T k n).0 q in subst (λ (m : ℕ). Answers T label (enquiry.Long k m)) s (law.long d)
-  by_check (checked.Bad k p) q = let (d, b) = (check_bad T k p).0 q in law.bad d b
-  by_check checked.Good q =
+  by_check (Err (fault.Long k n)) q = let (d, s) = (check_long T k n).0 q in subst (λ (m : ℕ). Answers T label (Err (Long k m))) s (law.long d)
+  by_check (Err (fault.Bad k p)) q = let (d, b) = (check_bad T k p).0 q in law.bad d b
+  by_check (Ok done) q =
       let g = (good_texts T).0 q in
       by (good_label label)
       (λ t. rw t (good_answer T label g ((good_label_lem label).0 t)))
@@ -131,11 +130,11 @@ module _ (T : Texts) (label : List ℕ) where
   unfolding enquiry_of
   answers = by_check (check_of T) refl
 
-  pub with_label : GoodTexts T → GoodLabel label → enquiry_of T label ≡ answer_for T label
+  pub with_label : GoodTexts T → GoodLabel label → enquiry_of T label ≡ or_undefined (answer_for T label)
   unfolding enquiry_of
   with_label g l = rw ((good_texts T).1 g, (good_label_lem label).1 l)
 
-  without_label : GoodTexts T → NoLabel label → enquiry_of T label ≡ enquiry.NotLabel
+  without_label : GoodTexts T → NoLabel label → enquiry_of T label ≡ Err NotLabel
   unfolding enquiry_of
   without_label g n = rw ((good_texts T).1 g, (no_label label).1 n)
 
@@ -144,36 +143,33 @@ module _ (T : Texts) (label : List ℕ) where
   determined (law.long {k} d) = ap (checked_enquiry T label) ((check_long T k (length (text_of T k))).1 (d, refl))
   determined (law.bad {k} {place} d b) = ap (checked_enquiry T label) ((check_bad T k place).1 (d, b))
   determined (law.not_label (g, n)) = without_label g n
-  determined (law.undefined (g, l, n)) = with_label g l ∙ search_none T label n
-  determined (law.destination (g, l, m)) = with_label g l ∙ search_first T label m
+  determined (law.undefined (g, l, n)) = with_label g l ∙ ap or_undefined (search_none T label n)
+  determined (law.destination (g, l, m)) = with_label g l ∙ ap or_undefined (search_first T label m)
 
   pub enquiry_iff : (e : Enquiry) → (enquiry_of T label ≡ e) ↔ Answers T label e
   enquiry_iff e = (λ q. subst (Answers T label) q answers, determined)
 
 -- ---- the part lies within its text
-place_within : {T : Texts} {label : List ℕ} {e : Enquiry} {k a z : ℕ} → Answers T label e → e ≡ enquiry.Destination k a z → (a ≤ z) × (z ≤ length (text_of T k))
+place_within : {T : Texts} {label : List ℕ} {e : Enquiry} {d : Destination} → Answers T label e → e ≡ Ok d → (d.start ≤ d.end) × (d.end ≤ length (text_of T d.text))
 place_within (law.long w) q = let no : ◌≡◌ {A = ℕ} 0 1 = cc in absurd (omega arith)
 place_within (law.bad w b) q = let no : ◌≡◌ {A = ℕ} 0 1 = cc in absurd (omega arith)
 place_within (law.not_label w) q = let no : ◌≡◌ {A = ℕ} 0 1 = cc in absurd (omega arith)
 place_within (law.undefined w) q = let no : ◌≡◌ {A = ℕ} 0 1 = cc in absurd (omega arith)
-place_within {T} {k = k} {a = a} {z = z} (law.destination {j} (g, l, m)) q =
+place_within {T} {d = d} (law.destination {j} (g, l, m)) q =
     let p = (defines_lies T m).places in
-    let t : j.text ≡ k = cc in
-    let s : j.definition.destination.start ≡ a = cc in
-    let u : j.definition.destination.end ≡ z = cc in
-    let inside : j.definition.destination.end ≤ length (text_of T j.text) = omega (arith, p.ends, p.inside) in
-    (omega (arith, p.destination), subst (λ (i : ℕ). z ≤ length (text_of T i)) t (rw u at inside))
+    let i : answer_by j ≡ d = cc in
+    subst (λ (x : Destination). (x.start ≤ x.end) × (x.end ≤ length (text_of T x.text))) i (omega (arith, p.destination), omega (arith, p.ends, p.inside))
 
-module _ (T : Texts) (label : List ℕ) {e : Enquiry} (answer : e ≡ enquiry_of T label) {k a z : ℕ} (q : e ≡ enquiry.Destination k a z) where
-  pub part_ordered : a ≤ z
+module _ (T : Texts) (label : List ℕ) {e : Enquiry} (answer : e ≡ enquiry_of T label) {d : Destination} (q : e ≡ Ok d) where
+  pub part_ordered : d.start ≤ d.end
   part_ordered = (place_within (answers T label) (sym answer ∙ q)).0
 
-  pub part_inside : z ≤ length (text_of T k)
+  pub part_inside : d.end ≤ length (text_of T d.text)
   part_inside = (place_within (answers T label) (sym answer ∙ q)).1
 
-module _ (note sheet label : List ℕ) {e : Enquiry} (answer : e ≡ enquiry_of (texts note sheet) label) {k a z : ℕ} (q : e ≡ enquiry.Destination k a z) where
-  pub inside_note : k ≡ 0 → z ≤ length note
-  inside_note i = subst (λ (n : ℕ). z ≤ length (text_of (texts note sheet) n)) i (part_inside (texts note sheet) label answer q)
+module _ (note sheet label : List ℕ) {e : Enquiry} (answer : e ≡ enquiry_of (texts note sheet) label) {d : Destination} (q : e ≡ Ok d) where
+  pub inside_note : d.text ≡ 0 → d.end ≤ length note
+  inside_note i = subst (λ (n : ℕ). d.end ≤ length (text_of (texts note sheet) n)) i (part_inside (texts note sheet) label answer q)
 
-  pub inside_sheet : (k ≡ 0 → ⊥) → z ≤ length sheet
-  inside_sheet i = rw (other_text (texts note sheet) k i) (part_inside (texts note sheet) label answer q)
+  pub inside_sheet : (d.text ≡ 0 → ⊥) → d.end ≤ length sheet
+  inside_sheet i = rw (other_text (texts note sheet) d.text i) (part_inside (texts note sheet) label answer q)

@@ -1,4 +1,5 @@
 -- Demand 1: each number is given exactly when its line says, with its value and the text that it names.
+use Rattle.std.specs.Prelude.{Err}
 use Prim.Native.Nat.{ℕ}
 use mathlib.Core.Path.{◌≡◌, refl, sym, ap, subst, ◌∙◌}
 use mathlib.Core.Logic.{◌⊎◌, inl, inr}
@@ -12,9 +13,8 @@ use Rattle.texts.specs.Texts.{Texts, note_number, text_of}
 use Rattle.texts.specs.Answers.{Due1, Due2}
 use Rattle.texts.proofs.Refusals.{bad_place}
 use Rattle.row.specs.Row.{Listed}
-use Rattle.enquiry.specs.declared.Enquiry.{Enquiry}
-use Rattle.enquiry.specs.declared.Enquiry.TheVariants.{Destination, Long, Bad, NotLabel, Undefined}
-use Rattle.enquiry.specs.Enquiry.{number_of, value_of, named_of}
+use Rattle.enquiry.specs.declared.Refusal.TheVariants.{Long, Bad, NotLabel, Undefined}
+use Rattle.enquiry.specs.Enquiry.{Enquiry, destination_in, number_of, value_of, named_of}
 use Rattle.enquiry.specs.Answers.{Defines, Due8, Due7, Due0, Answers, long, bad, not_label, undefined, destination}
 use Rattle.enquiry.specs.Reading.{enquiry_of}
 use Rattle.enquiry.proofs.Answers.{answers, determined}
@@ -71,25 +71,25 @@ module _ (T : Texts) (label : List ℕ) where
 
   -- "note longer than 32,768 bytes", with "its length"
   pub line_1 : (k : ℕ) → GivenFor (number_of answer) (named_of answer) (value_of answer) 1 k (Due1 T k) (λ v. v ≡ length (text_of T k))
-  line_1 k = given_for 1 k (λ w. record { by = Long k (length (text_of T k)); by_law = long w; number_is = refl; value_is = refl; named_is = refl })
+  line_1 k = given_for 1 k (λ w. record { by = Err (Long k (length (text_of T k))); by_law = long w; number_is = refl; value_is = refl; named_is = refl })
 
   -- "byte 0 or 13, or ill-formed UTF-8", with "where reading from the start first meets no good character"
   pub line_2 : (k : ℕ) → GivenFor (number_of answer) (named_of answer) (value_of answer) 2 k (Due2 T k) (FirstBad (text_of T k))
   line_2 k =
       given_for 2 k (λ w.
       let (p, b) = bad_place T w in
-      record { by = Bad k p; by_law = bad w b; number_is = refl; value_is = b; named_is = refl })
+      record { by = Err (Bad k p); by_law = bad w b; number_is = refl; value_is = b; named_is = refl })
 
   -- "the bytes given, set between `[` and `]`, are not exactly one label, or hold byte 0 or 13 or ill-formed UTF-8", with 0
   by_8 : Due8 T label → Line 8 (λ v. v ≡ 0) note_number
-  by_8 w = record { by = NotLabel; by_law = not_label w; number_is = refl; value_is = refl; named_is = refl }
+  by_8 w = record { by = Err NotLabel; by_law = not_label w; number_is = refl; value_is = refl; named_is = refl }
 
   pub line_8 : Given (number_of answer) (value_of answer) 8 (Due8 T label) (λ v. v ≡ 0)
   line_8 = record { exactly = (λ e. told e, λ w. number_given (by_8 w)); value = λ w. value_given (by_8 w) }
 
   -- "no definition has an equal label", with 0
   by_7 : Due7 T label → Line 7 (λ v. v ≡ 0) note_number
-  by_7 w = record { by = Undefined; by_law = undefined w; number_is = refl; value_is = refl; named_is = refl }
+  by_7 w = record { by = Err Undefined; by_law = undefined w; number_is = refl; value_is = refl; named_is = refl }
 
   pub line_7 : Given (number_of answer) (value_of answer) 7 (Due7 T label) (λ v. v ≡ 0)
   line_7 = record { exactly = (λ e. told e, λ w. number_given (by_7 w)); value = λ w. value_given (by_7 w) }
@@ -101,7 +101,7 @@ module _ (T : Texts) (label : List ℕ) where
 
   by_0 : {j : Listed} → Due0 T label j → Line 0 (λ v. (j : Listed) × Defines T label j × (v ≡ j.definition.destination.start)) j.text
   by_0 {j} w = record {
-    by = Destination j.text j.definition.destination.start j.definition.destination.end;
+    by = destination_in j.text j.definition.destination.start j.definition.destination.end;
     by_law = destination w;
     number_is = refl;
     value_is = (j, w.2, refl);

@@ -1,12 +1,11 @@
 -- Looking a label up among definitions, one definition after the other, and in one text after the other.
+use Rattle.std.specs.Prelude.{None, Option, Some}
 use Prim.Native.Nat.{ℕ, ◌+◌}
 use native.Mathlib.Numerals.{add-one}
 use mathlib.Core.Path.{◌≡◌, refl, sym, ap, ◌∙◌}
 use mathlib.Core.List.{List, [], ◌∷◌, ◌++◌}
 use mathlib.Core.Bool.{true, false}
 use Rattle.scan.proofs.Test.{by}
-use Rattle.scan.specs.declared.Found.{Found}
-use Rattle.scan.specs.declared.Found.TheVariants.{At, Nothing}
 use Rattle.texts.specs.Texts.{Texts, text_of}
 use Rattle.matching.specs.Reading.{matches}
 use Rattle.row.specs.declared.Definition.{Definition}
@@ -17,15 +16,14 @@ use Rattle.row.proofs.Turn.{match_hit, match_miss}
 use Rattle.definition.specs.Reading.{definitions}
 use Rattle.joined.specs.Joined.{listed_in}
 use Rattle.joined.specs.Reading.{joined}
-use Rattle.enquiry.specs.declared.Enquiry.{Enquiry}
-use Rattle.enquiry.specs.declared.Enquiry.TheVariants.{Destination, Long, Bad, NotLabel, Undefined}
+use Rattle.enquiry.specs.declared.Destination.{Destination}
 use Rattle.enquiry.specs.Answers.{own_labels}
 use Rattle.enquiry.specs.Reading.{answer_by, answer_at, answer_in, answer_of, answer_for}
 
 -- ---- numbers of labels
-abbrev one_on : Found → Found
-one_on (At k) = At (k + 1)
-one_on Nothing = Nothing
+abbrev one_on : Option ℕ → Option ℕ
+one_on (Some k) = Some (k + 1)
+one_on None = None
 
 -- labels that are numbered from one more on
 numbered : (k : ℕ) (ls : List (List ℕ)) (label : List ℕ) → match_from (k + 1) ls label ≡ one_on (match_from k ls label)
@@ -37,18 +35,18 @@ numbered k (l ∷ ls) label =
     (λ e. match_miss (k + 1) l ls label e ∙ numbered (k + 1) ls label ∙ ap one_on (sym (match_miss k l ls label e)))
 
 -- ---- answers
-behind : (j : Listed) (js : List Listed) (f : Found) → answer_at (j ∷ js) (one_on f) ≡ answer_at js f
-behind j js (At k) = rw add-one
-behind j js Nothing = refl
+behind : (j : Listed) (js : List Listed) (f : Option ℕ) → answer_at (j ∷ js) (one_on f) ≡ answer_at js f
+behind j js (Some k) = rw add-one
+behind j js None = refl
 
 module _ (label : List ℕ) where
-  pub none_left : answer_in [] label [] ≡ Undefined
+  pub none_left : answer_in [] label [] ≡ None
   unfolding answer_in match_from
   none_left = refl
 
   -- l is the label of j, ls are those of js
   module _ (l : List ℕ) (ls : List (List ℕ)) (j : Listed) (js : List Listed) where
-    pub equal_here : matches l label ≡ true → answer_in (l ∷ ls) label (j ∷ js) ≡ answer_by j
+    pub equal_here : matches l label ≡ true → answer_in (l ∷ ls) label (j ∷ js) ≡ Some (answer_by j)
     unfolding answer_in
     equal_here e = ap (answer_at (j ∷ js)) (match_hit 0 l ls label e)
 
@@ -58,12 +56,9 @@ module _ (label : List ℕ) where
 
 -- ---- texts
 -- the answer of one text, or else that of the next
-abbrev pub or_next : Enquiry → Enquiry → Enquiry
-or_next (Destination k a z) e = Destination k a z
-or_next (Long k n) e = Long k n
-or_next (Bad k p) e = Bad k p
-or_next NotLabel e = NotLabel
-or_next Undefined e = e
+abbrev pub or_next : Option Destination → Option Destination → Option Destination
+or_next (Some d) e = Some d
+or_next None e = e
 
 -- the labels of a text's definitions are its own
 pub own_labels_lem : (T : Texts) (k : ℕ) (ds : List Definition) → labels_of T (listed_in k ds) ≡ own_labels (text_of T k) ds

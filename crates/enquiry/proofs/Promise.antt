@@ -1,4 +1,5 @@
 -- What follows from the enquiry's promise: demand 1, and that no other result keeps it.
+use Rattle.std.specs.Prelude.{Err, Ok}
 use Prim.Native.Nat.{ℕ, ◌-◌, ◌≤◌}
 use native.Mathlib.Omega.{arith}
 use mathlib.Core.Path.{◌≡◌, refl, sym, ap, ◌∙◌}
@@ -7,9 +8,9 @@ use lib.ListN.{length, drop, length-drop}
 use lib.Seq.{length-take-le}
 use Rattle.texts.specs.Texts.{Texts, text_of}
 use Rattle.row.specs.Row.{Listed}
-use Rattle.enquiry.specs.declared.Enquiry.{Enquiry}
-use Rattle.enquiry.specs.declared.Enquiry.TheVariants.{Destination, Long, Bad, NotLabel, Undefined}
-use Rattle.enquiry.specs.Enquiry.{number_of, value_of, named_of, part_of, Address, address_of}
+use Rattle.enquiry.specs.declared.Refusal.{Refusal}
+use Rattle.enquiry.specs.declared.Refusal.TheVariants.{Long, Bad, NotLabel, Undefined}
+use Rattle.enquiry.specs.Enquiry.{Enquiry, number_of, value_of, named_of, part_of, Address, address_of}
 use Rattle.enquiry.specs.Answers.{Due0, Answers, destination}
 use Rattle.enquiry.specs.Reading.{enquiry_of}
 use Rattle.enquiry.specs.Promise.{Resolved}
@@ -17,12 +18,15 @@ use Rattle.enquiry.specs.Claims.{Handed, Demand1, Same}
 use Rattle.enquiry.proofs.Answers.{determined, enquiry_iff, defines_lies}
 use Rattle.enquiry.proofs.Demand1 as lines
 
+refused : (T : Texts) (at beside : Address) (r : Refusal) → (part_of T (Err r) ≡ []) × (address_of at beside (Err r) ≡ at)
+refused T at beside (Long k n) = (refl, refl)
+refused T at beside (Bad k p) = (refl, refl)
+refused T at beside NotLabel = (refl, refl)
+refused T at beside Undefined = (refl, refl)
+
 empty : (T : Texts) (at beside : Address) (e : Enquiry) → (number_of e ≡ 0 → ⊥) → (part_of T e ≡ []) × (address_of at beside e ≡ at)
-empty T at beside (Destination k a z) n = absurd (n refl)
-empty T at beside (Long k n) r = (refl, refl)
-empty T at beside (Bad k p) r = (refl, refl)
-empty T at beside NotLabel r = (refl, refl)
-empty T at beside Undefined r = (refl, refl)
+empty T at beside (Ok d) n = absurd (n refl)
+empty T at beside (Err r) n = refused T at beside r
 
 module _ {T T₁ : Texts} {label label₁ answer part : List ℕ} {at beside place : Address} (r : Resolved T label at beside T₁ label₁ answer part place) where
   -- the promise in the law's terms

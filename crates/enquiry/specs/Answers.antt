@@ -1,5 +1,5 @@
 -- The enquiry: which answer two texts and a label have.
-use Rattle.std.specs.Prelude.{ℕ, List, ◌∷◌, ◌++◌, map, ◌⊎◌, length}
+use Rattle.std.specs.Prelude.{ℕ, List, ◌∷◌, ◌++◌, map, ◌⊎◌, length, Err}
 use Rattle.text.specs.Utf8.{Clean, FirstBad, Unclean}
 use Rattle.texts.specs.Texts.{Texts, text_of}
 use Rattle.texts.specs.Answers.{Due1, Due2, GoodTexts}
@@ -10,8 +10,8 @@ use Rattle.row.specs.Row.{Listed}
 use Rattle.row.specs.First.{bytes_of, labels_of, FirstEqual, NoneEqual}
 use Rattle.definition.specs.Note.{NoteIs}
 use Rattle.joined.specs.Joined.{JoinedIs}
-use Rattle.enquiry.specs.declared.Enquiry.{Enquiry}
-use Rattle.enquiry.specs.declared.Enquiry.TheVariants.{Destination, Long, Bad, NotLabel, Undefined}
+use Rattle.enquiry.specs.declared.Refusal.TheVariants.{Long, Bad, NotLabel, Undefined}
+use Rattle.enquiry.specs.Enquiry.{Enquiry, destination_in}
 
 -- 8: "the bytes given, set between `[` and `]`, are not exactly one label, or hold byte 0 or 13 or ill-formed UTF-8"
 abbrev pub NoLabel : List ℕ → Type 0
@@ -55,13 +55,13 @@ Due0 T label j = GoodTexts T × GoodLabel label × Defines T label j
 -- the answer to two texts and a label
 pub data Answers (T : Texts) (label : List ℕ) : Enquiry → Type 0 where
   -- with "its length"
-  long : {k : ℕ} → Due1 T k → Answers T label (Long k (length (text_of T k)))
+  long : {k : ℕ} → Due1 T k → Answers T label (Err (Long k (length (text_of T k))))
   -- with "where reading from the start first meets no good character"
-  bad : {k place : ℕ} → Due2 T k → FirstBad (text_of T k) place → Answers T label (Bad k place)
-  not_label : Due8 T label → Answers T label NotLabel
-  undefined : Due7 T label → Answers T label Undefined
+  bad : {k place : ℕ} → Due2 T k → FirstBad (text_of T k) place → Answers T label (Err (Bad k place))
+  not_label : Due8 T label → Answers T label (Err NotLabel)
+  undefined : Due7 T label → Answers T label (Err Undefined)
   -- with the text that defines the label, and the destination's start and end in it
-  destination : {j : Listed} → Due0 T label j → Answers T label (Destination j.text j.definition.destination.start j.definition.destination.end)
+  destination : {j : Listed} → Due0 T label j → Answers T label (destination_in j.text j.definition.destination.start j.definition.destination.end)
 
 -- ---- a text by itself
 -- the labels of these definitions of the text s

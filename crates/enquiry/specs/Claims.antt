@@ -10,9 +10,7 @@ use Rattle.row.specs.declared.Definition.{Definition}
 use Rattle.row.specs.Row.{Listed}
 use Rattle.row.specs.First.{bytes_of}
 use Rattle.definition.specs.Note.{NoteIs}
-use Rattle.enquiry.specs.declared.Enquiry.{Enquiry}
-use Rattle.enquiry.specs.declared.Enquiry.TheVariants.{Destination}
-use Rattle.enquiry.specs.Enquiry.{number_of, value_of, named_of, Address, advanced, text_address}
+use Rattle.enquiry.specs.Enquiry.{Enquiry, destination_in, number_of, value_of, named_of, Address, advanced, text_address}
 use Rattle.enquiry.specs.Answers.{GoodLabel, Defines, Due8, Due7, Due0, Answers, own_labels, DefinesAlone}
 
 -- the part is the destination of j where it stands in its own text; the note lies at the address `at`, the sheet at `beside`
@@ -58,7 +56,7 @@ pub record NoteWins (note label : List ℕ) : Type 0 where
       → (d : Definition) × DefinesAlone note label d
   -- and its destination, in the note, is the answer, whatever sheet is lent beside the note
   pub wins : {d : Definition} → DefinesAlone note label d → GoodNote note → GoodLabel label → (sheet : List ℕ) → GoodNote sheet
-      → (e : Enquiry) → Answers (texts note sheet) label e ↔ (e ≡ Destination note_number d.destination.start d.destination.end)
+      → (e : Enquiry) → Answers (texts note sheet) label e ↔ (e ≡ destination_in note_number d.destination.start d.destination.end)
 
 -- two results of one call are equal in every number and byte, and lie at one place
 pub record Same (answer part answer' part' : List ℕ) (place place' : Address) : Type 0 where

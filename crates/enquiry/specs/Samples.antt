@@ -1,5 +1,5 @@
 -- Two texts and a label with the enquiry's answer, by computation.
-use Rattle.std.specs.Prelude.{ℕ, ◌≡◌, refl, List, [], ◌∷◌, ◌++◌, map, replicate}
+use Rattle.std.specs.Prelude.{ℕ, ◌≡◌, refl, List, [], ◌∷◌, ◌++◌, map, replicate, Err}
 use Prim.Native.String.{String}
 use Rattle.scan.specs.Ascii.{ascii}
 use Rattle.scan.specs.Reading.{scan, run, past, leap, closing_step, closing}
@@ -16,9 +16,8 @@ use Rattle.matching.specs.Reading.{lower, pair, code_of, folds_from, spaced, squ
 use Rattle.row.specs.Reading.{match_from}
 use Rattle.definition.specs.Reading as definition
 use Rattle.joined.specs.Reading.{joined}
-use Rattle.enquiry.specs.declared.Enquiry.{Enquiry}
-use Rattle.enquiry.specs.declared.Enquiry.TheVariants.{Destination, Long, Bad, NotLabel, Undefined}
-use Rattle.enquiry.specs.Enquiry.{part_of}
+use Rattle.enquiry.specs.declared.Refusal.TheVariants.{Long, Bad, NotLabel, Undefined}
+use Rattle.enquiry.specs.Enquiry.{Enquiry, destination_in, part_of}
 use Rattle.enquiry.specs.Reading.{good_label, answer_in, answer_for, enquiry_of}
 
 pub record Sample : Type 0 where
@@ -40,33 +39,33 @@ sheet = ascii "[max]: /s\n[P]: /t\n[none]: <>"
 
 abbrev pub samples : List Sample
 samples =
-    sample note [] (ascii "Max") (Destination 0 7 12) "/a\\*b"
-    ∷ sample note [] (ascii " x  y\n\n") (Destination 0 40 40) ""
-    ∷ sample note [] (ascii "p") Undefined ""
+    sample note [] (ascii "Max") (destination_in 0 7 12) "/a\\*b"
+    ∷ sample note [] (ascii " x  y\n\n") (destination_in 0 40 40) ""
+    ∷ sample note [] (ascii "p") (Err Undefined) ""
     -- the note's, though both define it; the sheet's, also an empty one, and beside an empty note
-    ∷ sample note sheet (ascii "Max") (Destination 0 7 12) "/a\\*b"
-    ∷ sample note sheet (ascii "p") (Destination 1 15 17) "/t"
-    ∷ sample note sheet (ascii "none") (Destination 1 27 27) ""
-    ∷ sample [] sheet (ascii "Max") (Destination 1 7 9) "/s"
-    ∷ sample note sheet (ascii "q") Undefined ""
-    ∷ sample [] [] (ascii "p") Undefined ""
-    ∷ sample note sheet [] NotLabel ""
-    ∷ sample note [] (ascii " ") NotLabel ""
-    ∷ sample note [] (ascii "a]") NotLabel ""
-    ∷ sample note [] (ascii "[") NotLabel ""
-    ∷ sample note [] (ascii "[max]") NotLabel ""
-    ∷ sample note [] (ascii "max" ++ 13 ∷ []) NotLabel ""
-    ∷ sample note [] (0 ∷ ascii "max") NotLabel ""
-    ∷ sample note [] (ascii "max" ++ 195 ∷ []) NotLabel ""
-    ∷ sample (ascii "[a]: b" ++ 13 ∷ []) [] (ascii "a") (Bad 0 6) ""
-    ∷ sample (ascii "[a]: b" ++ 0 ∷ []) [] [] (Bad 0 6) ""
-    ∷ sample (ascii "[a" ++ 237 ∷ 160 ∷ 128 ∷ ascii "]: b") [] (ascii "a") (Bad 0 2) ""
-    ∷ sample (replicate 32769 0) [] [] (Long 0 32769) ""
+    ∷ sample note sheet (ascii "Max") (destination_in 0 7 12) "/a\\*b"
+    ∷ sample note sheet (ascii "p") (destination_in 1 15 17) "/t"
+    ∷ sample note sheet (ascii "none") (destination_in 1 27 27) ""
+    ∷ sample [] sheet (ascii "Max") (destination_in 1 7 9) "/s"
+    ∷ sample note sheet (ascii "q") (Err Undefined) ""
+    ∷ sample [] [] (ascii "p") (Err Undefined) ""
+    ∷ sample note sheet [] (Err NotLabel) ""
+    ∷ sample note [] (ascii " ") (Err NotLabel) ""
+    ∷ sample note [] (ascii "a]") (Err NotLabel) ""
+    ∷ sample note [] (ascii "[") (Err NotLabel) ""
+    ∷ sample note [] (ascii "[max]") (Err NotLabel) ""
+    ∷ sample note [] (ascii "max" ++ 13 ∷ []) (Err NotLabel) ""
+    ∷ sample note [] (0 ∷ ascii "max") (Err NotLabel) ""
+    ∷ sample note [] (ascii "max" ++ 195 ∷ []) (Err NotLabel) ""
+    ∷ sample (ascii "[a]: b" ++ 13 ∷ []) [] (ascii "a") (Err (Bad 0 6)) ""
+    ∷ sample (ascii "[a]: b" ++ 0 ∷ []) [] [] (Err (Bad 0 6)) ""
+    ∷ sample (ascii "[a" ++ 237 ∷ 160 ∷ 128 ∷ ascii "]: b") [] (ascii "a") (Err (Bad 0 2)) ""
+    ∷ sample (replicate 32769 0) [] [] (Err (Long 0 32769)) ""
     -- the sheet is refused after the note, and before the label, though the note defines it
-    ∷ sample note (ascii "x" ++ 13 ∷ []) (ascii "max") (Bad 1 1) ""
-    ∷ sample note (13 ∷ []) [] (Bad 1 0) ""
-    ∷ sample note (replicate 32769 0) (ascii "max") (Long 1 32769) ""
-    ∷ sample (ascii "[a]: b" ++ 13 ∷ []) (13 ∷ []) (ascii "a") (Bad 0 6) ""
+    ∷ sample note (ascii "x" ++ 13 ∷ []) (ascii "max") (Err (Bad 1 1)) ""
+    ∷ sample note (13 ∷ []) [] (Err (Bad 1 0)) ""
+    ∷ sample note (replicate 32769 0) (ascii "max") (Err (Long 1 32769)) ""
+    ∷ sample (ascii "[a]: b" ++ 13 ∷ []) (13 ∷ []) (ascii "a") (Err (Bad 0 6)) ""
     ∷ []
 
 -- the same texts and labels, as they are answered

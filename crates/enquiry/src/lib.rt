@@ -3,113 +3,125 @@
 
 ghost use Rattle.std.specs.Prelude.{◌≡◌};
 ghost use Rattle.texts.specs.Texts.{texts};
-ghost use Rattle.enquiry.specs.Enquiry.{number_of, value_of, named_of};
+ghost use Rattle.enquiry.specs.Enquiry.{of_fault, number_of, value_of, named_of};
 ghost use Rattle.enquiry.specs.Reading.{good_label, answer_of, enquiry_of};
 ghost use Rattle.enquiry.specs.Promise.{Resolved};
 
-use row::Range;
-use scan::Found;
-use texts::Checked;
-use walk::{Cursor, Next};
+use texts::Fault;
+use walk::Cursor;
 
-// The answer: the text of the destination with its start and end there, or a refusal with what is returned with it, 1 and 2 with
-// their text first.
+// A destination: the number of its text, which C is told, and its start and end there.
 #[derive(Clone, Copy)]
-pub enum Enquiry {
-    Destination(usize, usize, usize),
+pub struct Destination {
+    pub text: usize,
+    pub start: usize,
+    pub end: usize,
+}
+
+// A refusal, 1 and 2 with their text and what is returned with it.
+#[derive(Clone, Copy)]
+pub enum Refusal {
     Long(usize, usize),
     Bad(usize, usize),
     NotLabel,
     Undefined,
 }
 
-// The answer's number.
-pub fn number(e: Enquiry) -> u64
+impl From<Fault> for Refusal {
+    ghost from_gives = { λ fault refusal. refusal ≡ of_fault fault };
+
+    fn from(fault: Fault) -> Refusal {
+        match fault {
+            Fault::Long(text, length) => Refusal::Long(text, length),
+            Fault::Bad(text, place) => Refusal::Bad(text, place),
+        }
+    }
+}
+
+// The answer's number, as `notice_resolve` gives it to C.
+pub fn number(e: Result<Destination, Refusal>) -> u64
     ensures { result ≡ number_of e }
 {
     match e {
-        Enquiry::Destination(_, _, _) => 0,
-        Enquiry::Long(_, _) => 1,
-        Enquiry::Bad(_, _) => 2,
-        Enquiry::NotLabel => 8,
-        Enquiry::Undefined => 7,
+        Ok(_) => 0,
+        Err(Refusal::Long(_, _)) => 1,
+        Err(Refusal::Bad(_, _)) => 2,
+        Err(Refusal::NotLabel) => 8,
+        Err(Refusal::Undefined) => 7,
     }
 }
 
 // What is returned with the number.
-pub fn value(e: Enquiry) -> u64
+pub fn value(e: Result<Destination, Refusal>) -> u64
     ensures { result ≡ value_of e }
 {
     match e {
-        Enquiry::Destination(_, start, _) => start as u64,
-        Enquiry::Long(_, length) => length as u64,
-        Enquiry::Bad(_, place) => place as u64,
-        Enquiry::NotLabel => 0,
-        Enquiry::Undefined => 0,
+        Ok(destination) => destination.start as u64,
+        Err(Refusal::Long(_, length)) => length as u64,
+        Err(Refusal::Bad(_, place)) => place as u64,
+        Err(Refusal::NotLabel) => 0,
+        Err(Refusal::Undefined) => 0,
     }
 }
 
 // The text that the answer names.
-pub fn named(e: Enquiry) -> u64
+pub fn named(e: Result<Destination, Refusal>) -> u64
     ensures { result ≡ named_of e }
 {
     match e {
-        Enquiry::Destination(text, _, _) => text as u64,
-        Enquiry::Long(text, _) => text as u64,
-        Enquiry::Bad(text, _) => text as u64,
-        Enquiry::NotLabel => 0,
-        Enquiry::Undefined => 0,
+        Ok(destination) => destination.text as u64,
+        Err(Refusal::Long(text, _)) => text as u64,
+        Err(Refusal::Bad(text, _)) => text as u64,
+        Err(Refusal::NotLabel) => 0,
+        Err(Refusal::Undefined) => 0,
     }
 }
 
 // Whether the bytes are exactly one label, and good text.
+#[tactic(auto, unfolding(crate::specs::Reading::good_label))]
 fn good_label(label: &[u8]) -> bool
     ensures { result ≡ good_label label.now }
 {
-    if !label::is_label(label) {
-        return false;
-    }
-    match text::first_bad(label) {
-        Found::At(_) => false,
-        Found::Nothing => true,
-    }
+    label::is_label(label) && text::first_bad(label).is_none()
 }
 
-// The destination of the first definition in `s`, the text with this number, that has an equal label.
-fn find(s: &[u8], text: usize, label: &[u8]) -> Enquiry
+// The destination of the first definition in `s`, the text with this number, that has an equal label. As in `row`'s lookup, the project's rule
+// names a labelled loop, so it is no `while let`: `continue` passes an unequal definition, and `break` yields the first equal one.
+#[tactic(auto, using(crate::proofs::Search::stands, crate::proofs::Search::none_equal, crate::proofs::Search::label_ordered, crate::proofs::Search::label_inside, crate::proofs::Search::less, crate::proofs::Search::equal))]
+fn find(s: &[u8], text: usize, label: &[u8]) -> Option<Destination>
     ensures { result ≡ answer_of text s.now label.now }
 {
     let mut c = Cursor { at: 0, end: 0 };
     'definitions: loop {
-        let Next::Definition(d, after) = walk::next_definition(s, c) else {
-            break 'definitions Enquiry::Undefined;
+        let Some(next) = walk::next_definition(s, c) else {
+            break 'definitions None;
         };
-        let Range { start, end } = d.label;
-        if !alike::same_label(&s[start..end], label) {
-            c = after;
+        let d = next.definition;
+        if !alike::same_label(&s[d.label.start..d.label.end], label) {
+            c = next.after;
             continue 'definitions;
         }
-        break 'definitions Enquiry::Destination(text, d.destination.start, d.destination.end);
+        break 'definitions Some(Destination {
+            text,
+            start: d.destination.start,
+            end: d.destination.end,
+        });
     }
 }
 
 // The answer for the bytes of a label, without its brackets. The note's definitions come before the sheet's.
-pub fn enquire(note: &[u8], sheet: &[u8], label: &[u8]) -> Enquiry
+#[tactic(auto, using(crate::proofs::Steps::refused_label, crate::proofs::Steps::found_own))]
+pub fn enquire(note: &[u8], sheet: &[u8], label: &[u8]) -> Result<Destination, Refusal>
     ensures { result ≡ enquiry_of (texts note.now sheet.now) label.now }
 {
-    match texts::check(note, sheet) {
-        Checked::Long(k, n) => return Enquiry::Long(k, n),
-        Checked::Bad(k, p) => return Enquiry::Bad(k, p),
-        Checked::Good => {}
-    }
+    texts::check(note, sheet)?;
     if !good_label(label) {
-        return Enquiry::NotLabel;
+        return Err(Refusal::NotLabel);
     }
-    let own = find(note, texts::NOTE, label);
-    let Enquiry::Undefined = own else {
-        return own;
-    };
-    find(sheet, texts::SHEET, label)
+    if let Some(own) = find(note, texts::NOTE, label) {
+        return Ok(own);
+    }
+    find(sheet, texts::SHEET, label).ok_or(Refusal::Undefined)
 }
 
 // Hands back the destination as a part of the text that defines the label, and stores the answer's number, its value and that text's
@@ -119,11 +131,11 @@ pub fn resolve<'a>(note: &'a [u8], sheet: &'a [u8], label: &[u8], answer: &mut [
 {
     let e = enquire(note, sheet, label);
     *answer = [number(e), value(e), named(e)];
-    let Enquiry::Destination(text, start, end) = e else {
+    let Ok(destination) = e else {
         return &note[..0];
     };
-    if text == texts::NOTE {
-        return &note[start..end];
+    if destination.text == texts::NOTE {
+        return &note[destination.start..destination.end];
     }
-    &sheet[start..end]
+    &sheet[destination.start..destination.end]
 }

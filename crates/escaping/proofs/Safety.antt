@@ -1,6 +1,6 @@
 -- What is written for text and titles holds no markup of its own.
 use Prim.Native.Nat.{ℕ}
-use mathlib.Core.Path.{◌≡◌, refl, ap}
+use mathlib.Core.Path.{refl, ap}
 use mathlib.Core.List.{List, [], ◌∷◌, ◌++◌, flat_map}
 use mathlib.Core.Bool.{not}
 use lib.Dec.{eqb}
@@ -9,7 +9,6 @@ use Rattle.scan.specs.Every.{Every, none, more}
 use Rattle.escaping.specs.Escaping.{escaped}
 use Rattle.escaping.specs.Reading.{undone, text_of}
 use Rattle.escaping.specs.Clean.{Entity, amp, lt, gt, quot, Clean, plain, entity, safe}
-use Rattle.escaping.specs.Clean as Clean
 use Rattle.escaping.proofs.Cases.{on_escaped}
 
 -- the bytes w may stand before what is clean

@@ -1,7 +1,8 @@
 -- Text on the page, as it is computed.
-use Rattle.std.specs.Prelude.{ℕ, Bool, true, false, cond, not, ◌||◌, eqb}
+use Rattle.std.specs.Prelude.{ℕ, Bool, true, false, cond, not, ◌||◌, take, eqb}
 use mathlib.Core.List.{List, [], ◌∷◌, flat_map}
 use Rattle.scan.specs.Byte.{escapes}
+use Rattle.scan.specs.Reading.{run}
 use Rattle.escaping.specs.Escaping.{escaped}
 
 -- the bytes with their escapes undone
@@ -17,6 +18,10 @@ backslash s = cond (escapes s) 1 0
 -- bytes other than `mark` that are not escaped: with 92 they stand for themselves in text, with 10 in code
 abbrev pub as_is : ℕ → ℕ → Bool
 as_is mark b = not (eqb b 38 || eqb b 60 || eqb b 62 || eqb b 34 || eqb b mark)
+
+-- those of them at the front of l
+abbrev pub front : ℕ → List ℕ → List ℕ
+front mark l = take (run (as_is mark) l) l
 
 abbrev pub text_of : List ℕ → List ℕ
 text_of l = flat_map escaped (undone l)

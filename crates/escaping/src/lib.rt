@@ -1,32 +1,28 @@
 // Text and titles on the page: escapes lose their backslash, four characters are replaced.
 #![tactic(auto)]
 
-ghost use Rattle.std.specs.Prelude.{◌≡◌, length, drop, ◌+◌, ◌≤◌, ◌<◌};
+ghost use Rattle.std.specs.Prelude.{◌≡◌, length, drop, ◌+◌, ◌<◌};
 ghost use Rattle.scan.specs.Reading.{past};
-ghost use Rattle.buffer.specs.Stored.{page_most, Writes};
+ghost use Rattle.buffer.specs.Stored.{HasRoom, Grows};
 ghost use Rattle.escaping.specs.Escaping.{escaped};
-ghost use Rattle.escaping.specs.Reading.{backslash, as_is, text_of};
+ghost use Rattle.escaping.specs.Reading.{backslash, as_is, front, text_of};
 
-use buffer::{put, put_byte};
+use buffer::Page;
+use scan::Class;
 
 // A byte of text, of code or of a title.
-pub fn put_escaped(page: &mut [u8], n: usize, b: u8) -> usize
-    requires { n + length (escaped b) ≤ page_most }
-    ensures { Writes page.old n (escaped b) page.new result }
+#[tactic(auto, unfolding(crate::specs::Escaping::escaped))]
+pub fn put_escaped(page: &mut Page, b: u8)
+    requires { HasRoom page.old (escaped b) }
+    ensures { Grows page.old (escaped b) page.new }
 {
-    if b == b'&' {
-        return put(page, n, b"&amp;");
+    match b {
+        b'&' => page.put(b"&amp;"),
+        b'<' => page.put(b"&lt;"),
+        b'>' => page.put(b"&gt;"),
+        b'"' => page.put(b"&quot;"),
+        _ => page.put_byte(b),
     }
-    if b == b'<' {
-        return put(page, n, b"&lt;");
-    }
-    if b == b'>' {
-        return put(page, n, b"&gt;");
-    }
-    if b == b'"' {
-        return put(page, n, b"&quot;");
-    }
-    put_byte(page, n, b)
 }
 
 // The place of the byte that stands at `i` once escapes are undone.
@@ -34,53 +30,46 @@ pub fn past_backslash(s: &[u8], i: usize) -> usize
     requires { i < length s.now }
     ensures { result ≡ i + backslash (drop i s.now) }
 {
-    if s[i] == b'\\' {
-        if scan::escape_at(s, i) {
-            return i + 1;
-        }
-    }
-    i
+    if scan::escape_at(s, i) { i + 1 } else { i }
 }
 
-// Whether a byte is neither escaped nor `mark`.
-fn stands_as_is(b: u8, mark: u8) -> bool
-    ensures { result ≡ as_is mark b }
-{
-    !((b == b'&') | (b == b'<') | (b == b'>') | (b == b'"') | (b == mark))
+// The bytes that are neither escaped nor `mark`.
+#[derive(Drop)]
+struct Plain {
+    mark: u8,
 }
 
-// The first place from `at` on where `mark` or a byte that is escaped stands; the end is one. Long runs are passed by strides.
-pub fn as_is_end(s: &[u8], at: usize, mark: u8) -> usize
-    ensures { result ≡ past (as_is mark) s.now at }
+impl Class<u8> for Plain {
+    ghost has = { λ c. as_is c.mark };
+
+    // None of the tests decides alone, so that many bytes are compared at once.
+    fn holds(&self, b: u8) -> bool {
+        !((b == b'&') | (b == b'<') | (b == b'>') | (b == b'"') | (b == self.mark))
+    }
+}
+
+// Writes the bytes from `at` on up to the first that is escaped or is `mark`, and gives its place; the end is one.
+pub fn put_run(page: &mut Page, s: &[u8], at: usize, mark: u8) -> usize
+    requires { HasRoom page.old (front mark (drop at s.now)) }
+    ensures end { result ≡ past (as_is mark) s.now at }
+    ensures grows { Grows page.old (front mark (drop at s.now)) page.new }
 {
-    if !stands_as_is(scan::peek(s, at), mark) {
-        return at;
+    let end = scan::past_after::<u8, Plain, 1>(s, at, &Plain { mark });
+    if at < end {
+        page.put(&s[at..end]);
     }
-    let mut i = scan::past_strides(s, at, 255, 34, 38, 60, 62, mark);
-    while i < s.len() {
-        if !stands_as_is(s[i], mark) {
-            return i;
-        }
-        i += 1;
-    }
-    i
+    end
 }
 
 // A text, or a title without its delimiters.
-pub fn put_text(page: &mut [u8], n: usize, s: &[u8]) -> usize
-    requires { n + length (text_of s.now) ≤ page_most }
-    ensures { Writes page.old n (text_of s.now) page.new result }
+pub fn put_text(page: &mut Page, s: &[u8])
+    requires { HasRoom page.old (text_of s.now) }
+    ensures { Grows page.old (text_of s.now) page.new }
 {
-    let mut k = n;
-    let mut i = 0;
-    loop {
-        let to = as_is_end(s, i, b'\\');
-        k = put(page, k, &s[i..to]);
-        if to == s.len() {
-            return k;
-        }
-        let j = past_backslash(s, to);
-        k = put_escaped(page, k, s[j]);
-        i = j + 1;
+    let mut i = put_run(page, s, 0, b'\\');
+    while i < s.len() {
+        let j = past_backslash(s, i);
+        put_escaped(page, s[j]);
+        i = put_run(page, s, j + 1, b'\\');
     }
 }

@@ -3,71 +3,58 @@
 #![tactic(auto)]
 
 ghost use Rattle.std.specs.Prelude.{◌≡◌};
-ghost use Rattle.texts.specs.Texts.{texts};
-ghost use Rattle.row.specs.Reading.{Fit, row_of};
-ghost use Rattle.index.specs.Index.{Holds, Ready};
+ghost use Rattle.row.specs.Listing.{row_with};
+ghost use Rattle.index.specs.Index.{Covers};
+ghost use Rattle.index.specs.Rows.{ReadyFor};
 
-use scan::Found;
-use searching::Spot;
+use indexing::Arranged;
+use row::Definitions;
+use searching::Sought;
 
 // How often a label is looked up without an index before one is built: to build it takes as long as some four slow lookups.
 const PATIENCE: u32 = 3;
 
-// The first of `count` rows whose label equals `label`, by the index.
-pub fn lookup<'a>(
-    note: &'a [u8],
-    sheet: &'a [u8],
-    table: &[u32],
-    count: usize,
-    index: &[u32],
-    label: &[u8],
-) -> Found
-    requires fit { Fit (texts note.now sheet.now) table.now count }
-    requires holds { Holds (texts note.now sheet.now) table.now count index.now }
-    ensures { result ≡ row_of (texts note.now sheet.now) table.now label.now count }
+// The first row whose label equals `label`, by an index in which every row has an entry.
+pub fn lookup<'a>(rows: &Arranged<'a>, label: &'a [u8]) -> Option<usize>
+    requires { Covers rows.now.definitions.now.count rows.now.index.now }
+    ensures { result ≡ row_with rows.now.definitions.now label.now }
 {
-    let h = ranking::key_of(label);
-    let from = searching::window(note, sheet, table, count, index, label, h);
-    let Spot { at, same } = searching::bound(note, sheet, table, count, index, label, h, from);
-    if !same {
-        return Found::Nothing;
+    let sought = Sought::new(label);
+    let from = searching::window(rows, &sought);
+    match searching::bound(rows, &sought, from) {
+        Ok(at) => Some(rows.entry(at).row()),
+        Err(_) => None,
     }
-    Found::At(indexing::row_in(index[buckets::BASE + at]))
 }
 
 // Counts a lookup without an index, and builds one after so many.
-fn count_try<'a>(note: &'a [u8], sheet: &'a [u8], table: &[u32], count: usize, index: &mut [u32])
-    requires fit { Fit (texts note.now sheet.now) table.now count }
-    requires ready { Ready (texts note.now sheet.now) table.now count index.old }
-    ensures { Ready (texts note.now sheet.now) table.now count index.new }
+fn count_try<'a>(d: &Definitions<'a>, index: &mut [u32])
+    requires { ReadyFor d.now index.old }
+    ensures { ReadyFor d.now index.new }
 {
     let tried = buckets::number_at(index, 0);
     if tried < PATIENCE {
-        buckets::put(index, 0, tried + 1);
+        scan::put(index, 0, tried + 1);
         return;
     }
     if tried == PATIENCE {
-        building::build(note, sheet, table, count, index);
+        building::build(d, index);
     }
 }
 
-// The first of `count` rows whose label equals `label`, by the index that is lent where it holds these rows.
-pub fn find<'a>(
-    note: &'a [u8],
-    sheet: &'a [u8],
-    table: &[u32],
-    count: usize,
-    index: &mut [u32],
-    label: &[u8],
-) -> Found
-    requires fit { Fit (texts note.now sheet.now) table.now count }
-    requires ready { Ready (texts note.now sheet.now) table.now count index.old }
-    ensures value { result ≡ row_of (texts note.now sheet.now) table.now label.now count }
-    ensures ready_2 { Ready (texts note.now sheet.now) table.now count index.new }
+// The first row whose label equals `label`, by the index that is lent where it holds these rows.
+pub fn find<'a>(d: &Definitions<'a>, index: &mut [u32], label: &[u8]) -> Option<usize>
+    requires ready { ReadyFor d.now index.old }
+    ensures value { result ≡ row_with d.now label.now }
+    ensures ready_2 { ReadyFor d.now index.new }
 {
     if buckets::number_at(index, 0) == indexing::BUILT {
-        return lookup(note, sheet, table, count, index, label);
+        let rows = Arranged {
+            definitions: &*d,
+            index: &*index,
+        };
+        return lookup(&rows, label);
     }
-    count_try(note, sheet, table, count, index);
-    row::lookup(note, sheet, table, count, label)
+    count_try(d, index);
+    row::lookup(d, label)
 }

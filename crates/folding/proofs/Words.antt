@@ -13,14 +13,14 @@ use Rattle.casefold.specs.Fold.{several, fold_by, fold, utf8, utf8s, expand, low
 use Rattle.scan.specs.Lists.{equals}
 use Rattle.scan.proofs.Lists.{equals_to}
 use Rattle.folding.specs.Pair.{pair, code_of, headed}
-use Rattle.folding.specs.Word.{unpack, unpacked, utf8_word, several_word, word_by, word_of}
+use Rattle.folding.specs.Word.{unpack, unpacked, utf8_word, several_word, word_of}
 
 -- ---- the number holds them
 unfoldable words : ℕ → Bool
 words c = ltb c 128 || equals (unpacked (word_of c)) (expand c)
 
 words_hold : all words 1328 ≡ true
-unfolding equals words unpack utf8_word several_word word_by word_of table several fold_by fold utf8 utf8s expand
+unfolding equals words unpack utf8_word several_word word_of table several fold_by fold utf8 utf8s expand
 words_hold = refl
 
 pub word_right : (c : ℕ) → 128 ≤ c → c < 1328 → unpacked (word_of c) ≡ expand c

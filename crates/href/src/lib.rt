@@ -1,87 +1,88 @@
 // The destination of a link in its href, and that of an image in its src.
 #![tactic(auto)]
 
-ghost use Rattle.std.specs.Prelude.{◌≡◌, length, ◌+◌, ◌≤◌, ◌<◌};
-ghost use Rattle.buffer.specs.Stored.{page_most, Writes};
+ghost use Rattle.std.specs.Prelude.{◌≡◌, length, ◌<◌};
+ghost use Rattle.buffer.specs.Stored.{HasRoom, Grows};
 ghost use Rattle.href.specs.Href.{stays, hex_digit, percent, href_byte};
 ghost use Rattle.href.specs.Reading.{href_of};
 
-use buffer::{put, put_byte};
+use buffer::Page;
 
 // Whether a byte stays as it is in an href.
+#[tactic(auto, unfolding(crate::specs::Href::stays))]
 fn stays_in_href(b: u8) -> bool
     ensures { result ≡ stays b }
 {
-    let alphanumeric = (b'A' <= b) & (b <= b'Z')
-        | (b'a' <= b) & (b <= b'z')
-        | (b'0' <= b) & (b <= b'9');
-    alphanumeric
-        | (b == b'-')
-        | (b == b'_')
-        | (b == b'.')
-        | (b == b'~')
-        | (b == b'!')
-        | (b == b'*')
-        | (b == b'\'')
-        | (b == b'(')
-        | (b == b')')
-        | (b == b';')
-        | (b == b':')
-        | (b == b'@')
-        | (b == b'=')
-        | (b == b'+')
-        | (b == b'$')
-        | (b == b',')
-        | (b == b'/')
-        | (b == b'?')
-        | (b == b'%')
-        | (b == b'#')
+    matches!(
+        b,
+        b'A'..=b'Z'
+            | b'a'..=b'z'
+            | b'0'..=b'9'
+            | b'-'
+            | b'_'
+            | b'.'
+            | b'~'
+            | b'!'
+            | b'*'
+            | b'\''
+            | b'('
+            | b')'
+            | b';'
+            | b':'
+            | b'@'
+            | b'='
+            | b'+'
+            | b'$'
+            | b','
+            | b'/'
+            | b'?'
+            | b'%'
+            | b'#'
+    )
 }
 
 // A capital hexadecimal digit.
+#[tactic(auto, unfolding(crate::specs::Href::hex_digit))]
 fn hex_digit(d: u8) -> u8
     requires { d < 16 }
     ensures { result ≡ hex_digit d }
 {
-    let digits = b"0123456789ABCDEF";
-    digits[d as usize]
+    b"0123456789ABCDEF"[d as usize]
 }
 
 // A percent sign and the byte's two digits.
-fn put_percent(page: &mut [u8], n: usize, b: u8) -> usize
-    requires { n + 3 ≤ page_most }
-    ensures { Writes page.old n (percent b) page.new result }
+fn put_percent(page: &mut Page, b: u8)
+    requires { HasRoom page.old (percent b) }
+    ensures { Grows page.old (percent b) page.new }
 {
-    let mut k = put_byte(page, n, b'%');
-    k = put_byte(page, k, hex_digit(b / 16));
-    put_byte(page, k, hex_digit(b % 16))
+    page.put(&[b'%', hex_digit(b / 16), hex_digit(b % 16)]);
 }
 
 // A byte of a destination.
-fn put_href_byte(page: &mut [u8], n: usize, b: u8) -> usize
-    requires { n + length (href_byte b) ≤ page_most }
-    ensures { Writes page.old n (href_byte b) page.new result }
+#[tactic(auto, unfolding(crate::specs::Href::href_byte))]
+fn put_href_byte(page: &mut Page, b: u8)
+    requires { HasRoom page.old (href_byte b) }
+    ensures { Grows page.old (href_byte b) page.new }
 {
     if stays_in_href(b) {
-        return put_byte(page, n, b);
+        page.put_byte(b);
+    } else if b == b'&' {
+        page.put(b"&amp;");
+    } else {
+        put_percent(page, b);
     }
-    if b == b'&' {
-        return put(page, n, b"&amp;");
-    }
-    put_percent(page, n, b)
 }
 
 // A destination without its delimiters.
-pub fn put_href(page: &mut [u8], n: usize, s: &[u8]) -> usize
-    requires { n + length (href_of s.now) ≤ page_most }
-    ensures { Writes page.old n (href_of s.now) page.new result }
+#[tactic(auto, using(escaping::proofs::Gives::begins, escaping::proofs::Gives::unit_inside, escaping::proofs::Gives::unit_room, escaping::proofs::Gives::unit_gives, escaping::proofs::Gives::all_undone))]
+pub fn put_href(page: &mut Page, s: &[u8])
+    requires { HasRoom page.old (href_of s.now) }
+    ensures { Grows page.old (href_of s.now) page.new }
 {
-    let mut k = n;
     let mut i = 0;
     while i < s.len() {
         let j = escaping::past_backslash(s, i);
-        k = put_href_byte(page, k, s[j]);
+        put_href_byte(page, s[j]);
         i = j + 1;
     }
-    k
 }

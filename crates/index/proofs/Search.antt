@@ -1,4 +1,5 @@
 -- What a search in a whole index finds is what the lookup through all rows finds.
+use Rattle.std.specs.Prelude.{None, Some}
 use Prim.Native.Nat.{ℕ, zero, suc, ◌+◌, ◌-◌, ◌≤◌, ◌<◌}
 use native.Mathlib.Omega.{arith}
 use mathlib.Core.Path.{◌≡◌, refl, sym, ap, ◌∙◌}
@@ -7,10 +8,11 @@ use borrow.Author.Tests.{ltb-true, ltb-false}
 use lib.Dec.{ltb}
 use lib.ListN.{get_or}
 use Rattle.scan.proofs.Test.{by}
-use Rattle.scan.specs.declared.Found.TheVariants.{At, Nothing}
 use Rattle.texts.specs.Texts.{Texts}
 use Rattle.matching.specs.Form.{Equal}
 use Rattle.matching.specs.Reading.{compared}
+use Rattle.std.specs.declared.cmp.Ordering.{Ordering}
+use Rattle.std.specs.declared.cmp.Ordering.TheVariants.{Less as less, Equal as same}
 use Rattle.order.specs.Order.{key, rank}
 use Rattle.order.proofs.Laws.{rank_refl, rank_equal, rank_less, rank_keys}
 use Rattle.row.specs.First.{labels_of, FirstEqual, NoneEqual}
@@ -36,7 +38,7 @@ module _ (T : Texts) (t : List ℕ) where
   before_trans {k} {l} {m} (tied d g) (tied e h) = tied (d ∙ e) (omega arith)
 
   -- ---- before a form that is less, all is less
-  before_less : {k l : ℕ} (c : List ℕ) → Before T t k l → rank (form l) c ≡ 0 → rank (form k) c ≡ 0
+  before_less : {k l : ℕ} (c : List ℕ) → Before T t k l → rank (form l) c ≡ less → rank (form k) c ≡ less
   before_less {k} {l} c (below a) e = rank_less (form k) (form l) c a e
   before_less {k} {l} c (tied d g) e = rw d e
 
@@ -47,7 +49,7 @@ module _ (T : Texts) (t : List ℕ) where
 
   -- of one form, the row with the lesser number comes first
   before_same : {k l : ℕ} → form k ≡ form l → Before T t k l → k < l
-  before_same {k} {l} e (below a) = let z : ◌≡◌ {A = ℕ} 1 0 = sym (rank_refl (form l)) ∙ (rw e at a) in absurd (omega arith)
+  before_same {k} {l} e (below a) = let z : ◌≡◌ {A = Ordering} same less = sym (rank_refl (form l)) ∙ (rw e at a) in grind (arith, z)
   before_same {k} {l} e (tied d g) = g
 
   module _ (count : ℕ) (index : List ℕ) (s : Sorted T t count index) where
@@ -64,7 +66,7 @@ module _ (T : Texts) (t : List ℕ) where
     ordered p q h k = let z : q ≡ (p + (q - (p + 1))) + 1 = omega arith in apart (q - (p + 1)) p q z k
 
     module _ (c : List ℕ) (p : ℕ) (w : Window T t count index c p p) where
-      all_less : (q : ℕ) → q < p → rank (form (row q)) c ≡ 0
+      all_less : (q : ℕ) → q < p → rank (form (row q)) c ≡ less
       all_less q h =
           let e : (p - 1) + 1 ≡ p = omega arith in
           let i = w.inside in
@@ -75,10 +77,10 @@ module _ (T : Texts) (t : List ℕ) where
           (λ g. absurd (omega arith))
 
       -- of a form that is c itself: it is not less than c
-      not_less : {l : List ℕ} → l ≡ c → rank l c ≡ 0 → ⊥
-      not_less e f = let z : ◌≡◌ {A = ℕ} 1 0 = sym (rank_refl c) ∙ (rw e at f) in omega arith
+      not_less : {l : List ℕ} → l ≡ c → rank l c ≡ less → ⊥
+      not_less e f = let z : ◌≡◌ {A = Ordering} same less = sym (rank_refl c) ∙ (rw e at f) in grind (arith, z)
 
-      is_equal : {l : List ℕ} → l ≡ c → rank l c ≡ 1
+      is_equal : {l : List ℕ} → l ≡ c → rank l c ≡ same
       is_equal e = rw e (rank_refl c)
 
       -- a row whose form is c does not stand before p
@@ -86,14 +88,14 @@ module _ (T : Texts) (t : List ℕ) where
       not_front q e h = not_less e (all_less q h)
 
       -- ---- row p has c: no row with c has a lesser number
-      module _ (h : p < count) (hit : rank (form (row p)) c ≡ 1) where
+      module _ (h : p < count) (hit : rank (form (row p)) c ≡ same) where
         least : (q : ℕ) → q < count → form (row q) ≡ c → row p ≤ row q
         least q k e =
             side q p (λ g. absurd (not_front q e g)) (λ g. let z = ap row g in omega arith)
             (λ g. let z = before_same (rank_equal (form (row p)) c hit ∙ sym e) (ordered p q g k) in omega arith)
 
       -- ---- c is not at p: no row has c
-      module _ (miss : p < count → rank (form (row p)) c ≡ 1 → ⊥) where
+      module _ (miss : p < count → rank (form (row p)) c ≡ same → ⊥) where
         no_after : {l : ℕ} → p < count → form l ≡ c → Before T t (row p) l → ⊥
         no_after h e (below a) = w.back h (rw e at a)
         no_after h e (tied d g) = miss h (is_equal (d ∙ e))
@@ -138,7 +140,7 @@ module _ (T : Texts) (t : List ℕ) (count : ℕ) (index : List ℕ) (x : Holds 
     equal_form : (i : ℕ) → i < count → Equal (get_or labels i []) label → (q : Stands count index i) → form_of T t (row_at index q.place) ≡ compared label
     equal_form i h e q = rw q.there (to_form (label_of T t i) label (rw (label_of_lem T t count i h) at e))
 
-    module _ (h : p < count) (hit : rank (form_of T t (row_at index p)) (compared label) ≡ 1) where
+    module _ (h : p < count) (hit : rank (form_of T t (row_at index p)) (compared label) ≡ same) where
       first : FirstEqual labels label (row_at index p)
       first =
           let k = row_at index p in
@@ -154,18 +156,18 @@ module _ (T : Texts) (t : List ℕ) (count : ℕ) (index : List ℕ) (x : Holds 
                 omega arith;
           }
 
-      pub found : row_of T t label count ≡ At (row_at index p)
+      pub found : row_of T t label count ≡ Some (row_at index p)
       unfolding row_of
       found = (first_equal labels label (row_at index p)).1 first
 
-    module _ (miss : p < count → rank (form_of T t (row_at index p)) (compared label) ≡ 1 → ⊥) where
+    module _ (miss : p < count → rank (form_of T t (row_at index p)) (compared label) ≡ same → ⊥) where
       none : NoneEqual labels label
       none i g e =
           let j : i < count = rw (labels_length T t 0 count) at g in
           let q = x.covers i j in
           nowhere T t count index x.sorted (compared label) p w miss q.place q.inside (equal_form i j e q)
 
-      pub missing : row_of T t label count ≡ Nothing
+      pub missing : row_of T t label count ≡ None
       unfolding row_of
       missing = (none_equal labels label).1 none
 

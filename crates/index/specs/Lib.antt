@@ -1,2 +1,4 @@
 pub mod Index
+pub mod Props
+pub mod Rows
 pub mod Claims

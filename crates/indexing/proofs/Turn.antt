@@ -12,6 +12,8 @@ use lib.Seq.{get_or-set_same, get_or-set_other}
 use Rattle.scan.proofs.Test.{and_left, and_right}
 use Rattle.texts.specs.Texts.{Texts, text_of}
 use Rattle.matching.specs.Reading.{compared}
+use Rattle.std.specs.declared.cmp.Ordering.{Ordering}
+use Rattle.std.specs.declared.cmp.Ordering.TheVariants.{Less, Equal}
 use Rattle.order.specs.Order.{order, mix, mixed, front, key, rank}
 use Rattle.order.proofs.Laws.{rank_below, rank_level, rank_equal}
 use Rattle.row.specs.Row.{width}
@@ -33,18 +35,14 @@ pub key_small : (c : List ℕ) → key c < 262144
 unfolding front key
 key_small c = let z = mixed_small 0 c (omega arith) in omega arith
 
--- ---- the label of a row can be read
-pub label_there : {T : Texts} {t : List ℕ} {count : ℕ} → Fit T t count → (k : ℕ) → k < count → (k * width + 2 < length t) × Within (text_of T (get_or t (k * width) 0)) (range_at t (k * width + 1))
-label_there f k h = (omega (arith, f.room), f.labels k h)
-
 module _ (T : Texts) (t : List ℕ) where
   -- ---- the entries of the rows passed, and one more
-  pub entry_more : (entries : List ℕ) (k : ℕ) → k < length entries → {own : List ℕ} → own ≡ label_of T t k → {h : ℕ} → h ≡ key (compared own) → Entries T t k entries
-      → Entries T t (k + 1) (set entries k (entry_of h k))
-  entry_more entries k g {own} e {h} eh all =
-      below_more (λ l. get_or (set entries k (entry_of h k)) l 0 ≡ entry_of (key (form_of T t l)) l) k
-      (λ l i. let n : l ≡ k → ⊥ = λ q. omega arith in get_or-set_other entries k l (entry_of h k) 0 n ∙ all l i)
-      (get_or-set_same entries k (entry_of h k) 0 g ∙ (rw (eh, e) refl))
+  pub entry_more : (entries : List ℕ) (k : ℕ) → k < length entries → {own : List ℕ} → own ≡ label_of T t k → {h : ℕ} → h ≡ key (compared own) → {e : ℕ} → e ≡ entry_of h k → Entries T t k entries
+      → Entries T t (k + 1) (set entries k e)
+  entry_more entries k g {own} eo {h} eh {e} ee all =
+      below_more (λ l. get_or (set entries k e) l 0 ≡ entry_of (key (form_of T t l)) l) k
+      (λ l i. let n : l ≡ k → ⊥ = λ q. omega arith in get_or-set_other entries k l e 0 n ∙ all l i)
+      (get_or-set_same entries k e 0 g ∙ ee ∙ (rw (eh, eo) refl))
 
   -- a number that stands at its row among them
   pub entry_is : {count k e : ℕ} (entries : List ℕ) → Entries T t count entries → k ≡ row_in e → k < count → eqb (get_or entries k 0) e ≡ true → IsEntry T t count e
@@ -62,7 +60,7 @@ module _ {T : Texts} {t : List ℕ} {count d e : ℕ} (x : IsEntry T t count d) 
       below (rank_below (form_of T t (row_in d)) (form_of T t (row_in e)) (omega arith))
 
   module _ (f : h ≤ g) (i : g ≤ h) {k l : ℕ} (ek : k ≡ row_in d) (el : l ≡ row_in e) {own other : List ℕ} (p : own ≡ label_of T t k) (q : other ≡ label_of T t l)
-      {r : ℕ} (er : r ≡ order (compared own) (compared other)) where
+      {r : Ordering} (er : r ≡ order (compared own) (compared other)) where
     ranked : r ≡ rank (form_of T t (row_in d)) (form_of T t (row_in e))
     ranked =
         let a = x.key in
@@ -70,14 +68,13 @@ module _ {T : Texts} {t : List ℕ} {count d e : ℕ} (x : IsEntry T t count d) 
         let z : key (form_of T t (row_in d)) ≡ key (form_of T t (row_in e)) = omega arith in
         er ∙ (rw (p, q, ek, el) (sym (rank_level (form_of T t (row_in d)) (form_of T t (row_in e)) z)))
 
-    pub before_less : r ≡ 0 → Before T t (row_in d) (row_in e)
+    pub before_less : r ≡ Less → Before T t (row_in d) (row_in e)
     before_less z = below (sym ranked ∙ z)
 
-    pub before_tied : (eqb r 1 && ltb k l) ≡ true → Before T t (row_in d) (row_in e)
-    before_tied z =
-        let a : r ≡ 1 = eqb-true r 1 (and_left (eqb r 1) (ltb k l) z) in
-        let b = ltb-true k l (and_right (eqb r 1) (ltb k l) z) in
-        tied (rank_equal (form_of T t (row_in d)) (form_of T t (row_in e)) (sym ranked ∙ a)) (omega arith)
+    pub before_tied : r ≡ Equal → ltb k l ≡ true → Before T t (row_in d) (row_in e)
+    before_tied z i =
+        let b = ltb-true k l i in
+        tied (rank_equal (form_of T t (row_in d)) (form_of T t (row_in e)) (sym ranked ∙ z)) (omega arith)
 
 -- ---- one place, and from each place to all
 module _ {T : Texts} {t : List ℕ} {count : ℕ} (index : List ℕ) where

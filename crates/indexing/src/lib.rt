@@ -1,13 +1,20 @@
 // The entries of an index, and whether they are in order and whole.
 #![tactic(auto)]
 
-ghost use Rattle.std.specs.Prelude.{◌≡◌, true, ◌+◌, ◌≤◌, ◌<◌, length};
-ghost use Rattle.texts.specs.Texts.{texts};
-ghost use Rattle.row.specs.Reading.{Fit};
-ghost use Rattle.index.specs.Index.{row_in, key_in, base, IsEntry, Before, Sorted, Stands, Covers};
-ghost use Rattle.indexing.specs.Building.{rows, Entries, Follows};
+mod arranged;
+mod keyed;
 
-use row::Definition;
+ghost use Rattle.std.specs.Prelude.{◌≡◌, true, ◌+◌, ◌≤◌, ◌<◌, ◌^◌, length};
+ghost use Rattle.row.specs.Listing.{texts_of};
+ghost use Rattle.index.specs.Index.{rows_limit, entry_of, row_in, key_in, base, entry_at, Stands, Covers};
+ghost use Rattle.index.specs.Rows.{IsEntryOf, BeforeIn, SortedIn};
+ghost use Rattle.indexing.specs.Building.{rows, Entries};
+ghost use Rattle.indexing.specs.Rows.{FollowsIn};
+
+pub use arranged::Arranged;
+pub use keyed::Keyed;
+use row::Definitions;
+use std::cmp::Ordering;
 
 // The most rows that an index may have. A note and a sheet have 5,461 definitions each at the most: `[a]:b` and an LF are six bytes.
 pub const ROWS: usize = 10922;
@@ -15,174 +22,150 @@ pub const ROWS: usize = 10922;
 // More than that.
 const LIMIT: u32 = 16384;
 
-// What the first number of an index says: it holds the rows.
+// What the first number of an index says: it holds the rows. It is a number, since an index is lent as 32-bit numbers alone.
 pub const BUILT: u32 = 4294967295;
 
 // The first number of one that can't be built.
 pub const GIVEN_UP: u32 = 4294967294;
 
-// The row of an entry.
-pub fn row_in(e: u32) -> usize
-    ensures { result ≡ row_in e }
-{
-    (e % LIMIT) as usize
+// An entry of an index: the key of a row's label, and the row. Both are in one number: an index is lent as 32-bit numbers.
+#[derive(Clone, Copy, PartialEq, Eq)]
+pub struct Entry {
+    pub number: u32,
 }
 
-// The key of an entry.
-pub fn key_in(e: u32) -> u32
-    ensures { result ≡ key_in e }
-{
-    e / LIMIT
+impl Entry {
+    pub fn new(key: u32, row: usize) -> Entry
+        requires key_bound { key < 2 ^ 18 }
+        requires row_bound { row < rows_limit }
+        ensures { result.number ≡ entry_of key row }
+    {
+        Entry {
+            number: key * LIMIT + row as u32,
+        }
+    }
+
+    pub fn row(self) -> usize
+        ensures { result ≡ row_in self.number }
+    {
+        (self.number % LIMIT) as usize
+    }
+
+    pub fn key(self) -> u32
+        ensures { result ≡ key_in self.number }
+    {
+        self.number / LIMIT
+    }
 }
 
-// The entry of each of `count` rows.
-pub fn fill_entries<'a>(
-    note: &'a [u8],
-    sheet: &'a [u8],
-    table: &[u32],
-    count: usize,
-    entries: &mut [u32; ROWS],
-)
-    requires fit { Fit (texts note.now sheet.now) table.now count }
-    requires count_le_rows { count ≤ rows }
+impl<'a> Arranged<'a> {
+    // The entry at place `p`.
+    pub fn entry(&self, p: usize) -> Entry
+        requires { p < self.now.definitions.now.count }
+        ensures { result.number ≡ entry_at self.now.index.now p }
+    {
+        Entry {
+            number: self.index[buckets::BASE + p],
+        }
+    }
+}
+
+// The entry of each row.
+pub fn fill_entries<'a>(d: &Definitions<'a>, entries: &mut [u32; ROWS])
+    requires count_le_rows { d.now.count ≤ rows }
     requires entries_len { length entries.old ≡ rows }
-    ensures { Entries (texts note.now sheet.now) table.now count entries.new }
+    ensures { Entries (texts_of d.now) d.now.table.now d.now.count entries.new }
 {
-    let mut k = 0;
-    while k < count {
-        let label = row::label_at(note, sheet, table, k * Definition::WIDTH);
-        entries[k] = ranking::key_of(label) * LIMIT + k as u32;
-        k += 1;
+    for k in 0..d.count {
+        entries[k] = Entry::new(ranking::key_of(d.label(k)), k).number;
     }
-}
-
-// Whether a number is the entry of its row.
-pub fn is_entry<'a>(
-    note: &'a [u8],
-    sheet: &'a [u8],
-    table: &[u32],
-    count: usize,
-    entries: &[u32; ROWS],
-    e: u32,
-) -> bool
-    requires count_le_rows { count ≤ rows }
-    requires entries { Entries (texts note.now sheet.now) table.now count entries.now }
-    ensures { result ≡ true → IsEntry (texts note.now sheet.now) table.now count e }
-{
-    let k = row_in(e);
-    if count <= k {
-        return false;
-    }
-    entries[k] == e
 }
 
 // Whether the row of an entry comes before that of another.
-pub fn comes_before<'a>(
-    note: &'a [u8],
-    sheet: &'a [u8],
-    table: &[u32],
-    count: usize,
-    d: u32,
-    e: u32,
-) -> bool
-    requires fit { Fit (texts note.now sheet.now) table.now count }
-    requires entry { IsEntry (texts note.now sheet.now) table.now count d }
-    requires entry_2 { IsEntry (texts note.now sheet.now) table.now count e }
-    ensures { result ≡ true → Before (texts note.now sheet.now) table.now (row_in d) (row_in e) }
+pub fn comes_before<'a>(d: &Definitions<'a>, one: Entry, other: Entry) -> bool
+    requires entry { IsEntryOf d.now one.number }
+    requires entry_2 { IsEntryOf d.now other.number }
+    ensures { result ≡ true → BeforeIn d.now (row_in one.number) (row_in other.number) }
 {
-    let g = key_in(d);
-    let h = key_in(e);
+    let g = one.key();
+    let h = other.key();
     if g < h {
         return true;
     }
     if h < g {
         return false;
     }
-    let k = row_in(d);
-    let l = row_in(e);
-    let own = row::label_at(note, sheet, table, k * Definition::WIDTH);
-    let other = row::label_at(note, sheet, table, l * Definition::WIDTH);
-    let r = ranking::compare(own, other);
-    if r == 0 {
-        return true;
+    let k = one.row();
+    let l = other.row();
+    match ranking::compare(d.label(k), d.label(l)) {
+        Ordering::Less => true,
+        Ordering::Equal => k < l,
+        Ordering::Greater => false,
     }
-    (r == 1) & (k < l)
 }
 
-// Whether the number at place `p` is an entry, and comes after the one before it.
-fn follows<'a>(
-    note: &'a [u8],
-    sheet: &'a [u8],
-    table: &[u32],
-    count: usize,
-    entries: &[u32; ROWS],
-    index: &[u32],
-    p: usize,
-) -> bool
-    requires fit { Fit (texts note.now sheet.now) table.now count }
-    requires count_le_rows { count ≤ rows }
-    requires entries { Entries (texts note.now sheet.now) table.now count entries.now }
-    requires p_in_bounds { base + p < length index.now }
-    ensures { result ≡ true → Follows (texts note.now sheet.now) table.now count index.now p }
-{
-    let e = index[buckets::BASE + p];
-    if !is_entry(note, sheet, table, count, entries, e) {
-        return false;
-    }
-    if p == 0 {
-        return true;
-    }
-    let d = index[buckets::BASE + p - 1];
-    if !is_entry(note, sheet, table, count, entries, d) {
-        return false;
-    }
-    comes_before(note, sheet, table, count, d, e)
-}
-
-// Whether the numbers are entries, each before the next.
-pub fn is_sorted<'a>(
-    note: &'a [u8],
-    sheet: &'a [u8],
-    table: &[u32],
-    count: usize,
-    entries: &[u32; ROWS],
-    index: &[u32],
-) -> bool
-    requires fit { Fit (texts note.now sheet.now) table.now count }
-    requires count_le_rows { count ≤ rows }
-    requires entries { Entries (texts note.now sheet.now) table.now count entries.now }
-    requires count_in_bounds { base + count ≤ length index.now }
-    ensures { result ≡ true → Sorted (texts note.now sheet.now) table.now count index.now }
-{
-    let mut p = 0;
-    while p < count {
-        if !follows(note, sheet, table, count, entries, index, p) {
+impl<'a> Keyed<'a> {
+    // Whether this is the entry of its row.
+    pub fn is_entry(&self, e: Entry) -> bool
+        ensures { result ≡ true → IsEntryOf self.now.definitions.now e.number }
+    {
+        let k = e.row();
+        if self.definitions.count <= k {
             return false;
         }
-        p += 1;
+        self.entries[k] == e.number
     }
-    true
+
+    // Whether the number at place `p` is an entry, and comes after the one before it.
+    fn follows(&self, index: &[u32], p: usize) -> bool
+        requires { base + p < length index.now }
+        ensures { result ≡ true → FollowsIn self.now.definitions.now index.now p }
+    {
+        let e = Entry {
+            number: index[buckets::BASE + p],
+        };
+        if !self.is_entry(e) {
+            return false;
+        }
+        if p == 0 {
+            return true;
+        }
+        let d = Entry {
+            number: index[buckets::BASE + p - 1],
+        };
+        if !self.is_entry(d) {
+            return false;
+        }
+        comes_before(self.definitions, d, e)
+    }
+
+    // Whether the numbers are entries, each before the next.
+    pub fn is_sorted(&self, index: &[u32]) -> bool
+        requires { base + self.now.definitions.now.count ≤ length index.now }
+        ensures { result ≡ true → SortedIn self.now.definitions.now index.now }
+    {
+        for p in 0..self.definitions.count {
+            if !self.follows(index, p) {
+                return false;
+            }
+        }
+        true
+    }
 }
 
 // Stores for each row the place of its entry.
 pub fn note_places(count: usize, index: &[u32], places: &mut [u32; ROWS])
     requires { count ≤ rows }
 {
-    let mut p = 0;
-    while p < count {
-        let k = row_in(buckets::number_at(index, buckets::BASE + p));
+    for p in 0..count {
+        let e = Entry {
+            number: buckets::number_at(index, buckets::BASE + p),
+        };
+        let k = e.row();
         if k < ROWS {
             places[k] = p as u32;
         }
-        p += 1;
     }
-}
-
-// A number of `places` as a place.
-fn as_place(x: u32) -> usize
-    ensures { result ≡ x }
-{
-    x as usize
 }
 
 // Whether the entry of row `k` stands where `places` says.
@@ -191,11 +174,14 @@ fn stands(count: usize, index: &[u32], places: &[u32; ROWS], k: usize) -> bool
     requires k_lt_rows { k < rows }
     ensures { result ≡ true → Stands count index.now k }
 {
-    let p = as_place(places[k]);
+    let p = places[k] as usize;
     if count <= p {
         return false;
     }
-    row_in(index[buckets::BASE + p]) == k
+    let e = Entry {
+        number: index[buckets::BASE + p],
+    };
+    e.row() == k
 }
 
 // Whether every row has an entry.
@@ -204,12 +190,10 @@ pub fn is_whole(count: usize, index: &[u32], places: &[u32; ROWS]) -> bool
     requires count_le_rows { count ≤ rows }
     ensures { result ≡ true → Covers count index.now }
 {
-    let mut k = 0;
-    while k < count {
+    for k in 0..count {
         if !stands(count, index, places, k) {
             return false;
         }
-        k += 1;
     }
     true
 }

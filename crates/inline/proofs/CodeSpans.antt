@@ -1,5 +1,6 @@
--- `closing_run` finds the end of the first later maximal run of exactly n backticks. At each place, before which c backticks stand, no such run
+-- `closing_run` finds the end of the first later maximal run of exactly n backticks. Some each place, before which c backticks stand, no such run
 -- has ended, and none has started before those c.
+use Rattle.std.specs.Prelude.{None, Option, Some}
 use Prim.Native.Nat.{ℕ, zero, suc, ◌+◌, ◌-◌, ◌≤◌, ◌<◌}
 use native.Mathlib.Omega.{arith}
 use mathlib.Core.Path.{◌≡◌, refl, sym, ap, ◌∙◌, subst}
@@ -11,8 +12,6 @@ use lib.ListN.{length, get_or, drop, length-drop, get_or-eq_default}
 use lib.Dec.{ltb, eqb}
 use Rattle.scan.proofs.Test.{by}
 use Rattle.scan.proofs.Scan.{Outcome, scan_holds, at_cons}
-use Rattle.scan.specs.declared.Found.{Found}
-use Rattle.scan.specs.declared.Found.TheVariants.{At, Nothing}
 use Rattle.inline.specs.Pieces.{backtick, MaximalBackticks, FirstRun}
 use Rattle.inline.specs.ReadingPieces.{Counted, count_after, run_step, run_done, closing_run}
 use Rattle.inline.proofs.Turns.{closes, passed, ends_full, ends_other}
@@ -115,9 +114,9 @@ module _ (p : List ℕ) (from n : ℕ) (some : 0 < n) (starts : tick p from ≡ 
             none_before = λ b h l. no_run ne b h (omega arith);
           }
 
-  abbrev Told : Found → Type 0
-  Told (At e) = RunEnds p from n e
-  Told Nothing = NoRun p from n
+  abbrev Told : Option ℕ → Type 0
+  Told (Some e) = RunEnds p from n e
+  Told None = NoRun p from n
 
   -- the scan stands at the place, with what is left of p
   abbrev Reached : Counted → List ℕ → Type 0
@@ -167,16 +166,16 @@ module _ (p : List ℕ) (from n : ℕ) (some : 0 < n) (starts : tick p from ≡ 
       (λ h. omega (arith, r.ends, r'.ends))
       (λ h. absurd (r.first.first r'.place r'.first.later h r'.first.run))
 
-  pub closing_run_iff : (e : ℕ) → (closing_run n (drop from p) from ≡ At e) ↔ RunEnds p from n e
+  pub closing_run_iff : (e : ℕ) → (closing_run n (drop from p) from ≡ Some e) ↔ RunEnds p from n e
   closing_run_iff e = (λ q. subst Told q told, λ r. back r (closing_run n (drop from p) from) told)
     where
-      back : RunEnds p from n e → (f : Found) → Told f → f ≡ At e
-      back r (At d) r' = ap At (one_end d e r' r)
-      back r Nothing no_runs = absurd (no_runs r.place r.first.later r.first.run)
+      back : RunEnds p from n e → (f : Option ℕ) → Told f → f ≡ Some e
+      back r (Some d) r' = ap Some (one_end d e r' r)
+      back r None no_runs = absurd (no_runs r.place r.first.later r.first.run)
 
-  pub no_closing_run_iff : (closing_run n (drop from p) from ≡ Nothing) ↔ NoRun p from n
+  pub no_closing_run_iff : (closing_run n (drop from p) from ≡ None) ↔ NoRun p from n
   no_closing_run_iff = (λ q. subst Told q told, λ r. back r (closing_run n (drop from p) from) told)
     where
-      back : NoRun p from n → (f : Found) → Told f → f ≡ Nothing
-      back r (At d) r' = absurd (r r'.place r'.first.later r'.first.run)
-      back r Nothing no_runs = refl
+      back : NoRun p from n → (f : Option ℕ) → Told f → f ≡ None
+      back r (Some d) r' = absurd (r r'.place r'.first.later r'.first.run)
+      back r None no_runs = refl

@@ -1,4 +1,5 @@
 -- What starts at a place of a paragraph lies within the paragraph.
+use Rattle.std.specs.Prelude.{None, Option, Some}
 use Prim.Native.Nat.{ℕ, ◌+◌, ◌≤◌, ◌<◌}
 use native.Mathlib.Omega.{arith}
 use mathlib.Core.Path.{◌≡◌, refl, sym, ap, ◌∙◌, subst}
@@ -9,10 +10,9 @@ use lib.ListN.{length, get_or, drop, length-drop}
 use lib.Dec.{eqb}
 use Rattle.scan.proofs.Test.{by, and_right}
 use Rattle.scan.specs.Byte.{punctuation, escapes}
-use Rattle.scan.proofs.Scan.{peek_inside, Outcome, scan_holds, at_cons, run_yes, run_no}
+use Rattle.scan.proofs.Scan.{peek_inside, Outcome, scan_holds, at_cons, run_yes}
+pub use Rattle.scan.proofs.Scan.{run_fits}
 use Rattle.scan.specs.Reading.{run}
-use Rattle.scan.specs.declared.Found.{Found}
-use Rattle.scan.specs.declared.Found.TheVariants.{At, Nothing}
 use Rattle.marking.specs.Marking.{Kind, Piece, link, image, escape, code, plain, opens, closes, role, closing, trailing}
 use Rattle.marking.proofs.Roles.{nothing≢closing, nothing≢trailing, opening≢closing, opening≢trailing, closing≢trailing}
 use Rattle.inline.specs.Pieces.{backtick, image_opens}
@@ -20,9 +20,9 @@ use Rattle.inline.specs.ReadingPieces.{Counted, run_step, run_done, closing_run,
 use Rattle.inline.proofs.Turns.{from_escape, from_backticks, from_image, from_byte}
 
 -- ---- the run that closes a code span
-abbrev EndsIn : ℕ → ℕ → Found → Type 0
-EndsIn lo hi (At e) = (lo ≤ e) × (e ≤ hi)
-EndsIn lo hi Nothing = Unit {0}
+abbrev EndsIn : ℕ → ℕ → Option ℕ → Type 0
+EndsIn lo hi (Some e) = (lo ≤ e) × (e ≤ hi)
+EndsIn lo hi None = Unit {0}
 
 module _ (n lo hi : ℕ) where
   abbrev Reached : Counted → List ℕ → Type 0
@@ -41,13 +41,8 @@ unfolding closing_run
 closing_run_ends n s at =
     scan_holds (run_step n) (run_done n) _ (EndsIn at (at + length s)) (turn n at (at + length s)) (last n at (at + length s)) s (record { at = at; count = 0 }) (omega arith)
 
-pub closing_run_within : (n : ℕ) (s : List ℕ) (at e : ℕ) → closing_run n s at ≡ At e → (at ≤ e) × (e ≤ at + length s)
+pub closing_run_within : (n : ℕ) (s : List ℕ) (at e : ℕ) → closing_run n s at ≡ Some e → (at ≤ e) × (e ≤ at + length s)
 closing_run_within n s at e q = subst (EndsIn at (at + length s)) q (closing_run_ends n s at)
-
-pub run_fits : (test : ℕ → Bool) (s : List ℕ) → run test s ≤ length s
-unfolding run
-run_fits test [] = omega arith
-run_fits test (b ∷ s) = by (test b) (λ e. rw (run_yes test b s e) (omega (arith, run_fits test s))) (λ e. rw (run_no test b s e) (omega arith))
 
 -- ---- the piece that starts at a place
 -- it starts there, takes up a byte or more, and is no tail; a closing piece takes up one byte
@@ -81,9 +76,9 @@ module _ (p : List ℕ) (a : ℕ) (h : a < length p) where
   image_sized e =
       other (opens image) (a + 2) opening≢closing opening≢trailing (omega arith) (two_bytes (λ b. eqb b 91) refl (eqb (get_or (drop a p) 0 0) 33) e)
 
-  ticked_sized : (n : ℕ) (f : Found) → 0 < n → a + n ≤ length p → EndsIn (a + n) (length p) f → Sized p a (span_or_text a (a + n) f)
-  ticked_sized n (At c) k l i = other code c nothing≢closing nothing≢trailing (omega arith) (omega arith)
-  ticked_sized n Nothing k l i = other plain (a + n) nothing≢closing nothing≢trailing (omega arith) l
+  ticked_sized : (n : ℕ) (f : Option ℕ) → 0 < n → a + n ≤ length p → EndsIn (a + n) (length p) f → Sized p a (span_or_text a (a + n) f)
+  ticked_sized n (Some c) k l i = other code c nothing≢closing nothing≢trailing (omega arith) (omega arith)
+  ticked_sized n None k l i = other plain (a + n) nothing≢closing nothing≢trailing (omega arith) l
 
   byte_sized : Sized p a (piece (kind_of (get_or p a 0)) a (a + 1))
   byte_sized = record { starts = refl; grows = omega arith; within = omega arith; no_tail = single_kind (eqb (get_or p a 0) 91) (eqb (get_or p a 0) 93); one_byte = λ t. refl }

@@ -1,14 +1,13 @@
 -- Where the spans of a marking stand: within the paragraph, the text within the span, the destination and title of an inline link or image within its tail.
+use Rattle.std.specs.Prelude.{None, Option as Found, Some}
 use Prim.Native.Nat.{ℕ, zero, suc, ◌+◌, ◌-◌, ◌≤◌}
 use native.Mathlib.Omega.{arith}
 use mathlib.Core.Path.{◌≡◌, refl, sym, ap, ◌∙◌}
 use mathlib.Core.Option.{Option, some-injective, none-ne-some}
 use mathlib.Core.List.{List, [], ◌∷◌}
 use lib.ListN.{length, drop}
-use lib.Dec.{eqb}
 use Rattle.scan.specs.Reading.{run}
 use Rattle.scan.proofs.Every.{run_iff}
-use Rattle.scan.proofs.Test.{by}
 use Rattle.marking.specs.Marking.{Sort, code, closing, role, Piece, Marking, At, Tiles, Paired, tail_piece, HasTail, Meets}
 use Rattle.marking.specs.Spans.{Span, code_span, pair_span, SpanOf, CodeOf, TakenOf}
 use Rattle.marking.proofs.Roles.{nothing≢trailing, closing≢trailing}
@@ -53,12 +52,12 @@ between_strings p (a_code_span {a} {n} {b} r f) k =
     let e : run backtick (drop a p) ≡ n = (run_iff backtick (drop a p) n).1 r.run in
     let z : b ≡ b + n - n = omega arith in
     record { count = n; opening_string = r; text_is = rw e; closing_string = rw (← z) f.run; apart = omega (arith, f.later) }
-between_strings p (an_escape e) k = let z : ◌≡◌ {A = ℕ} 0 1 = cc in absurd (omega arith)
-between_strings p (backticks r f) k = let z : ◌≡◌ {A = ℕ} 0 1 = cc in absurd (omega arith)
-between_strings p (opening e) k = let z : ◌≡◌ {A = ℕ} 0 1 = cc in absurd (omega arith)
-between_strings p (image_opening e) k = let z : ◌≡◌ {A = ℕ} 0 1 = cc in absurd (omega arith)
-between_strings p (closes e) k = let z : ◌≡◌ {A = ℕ} 0 1 = cc in absurd (omega arith)
-between_strings p (other h e i m) k = let z : ◌≡◌ {A = ℕ} 0 1 = cc in absurd (omega arith)
+between_strings p (an_escape e) k = cc
+between_strings p (backticks r f) k = cc
+between_strings p (opening e) k = cc
+between_strings p (image_opening e) k = cc
+between_strings p (closes e) k = cc
+between_strings p (other h e i m) k = cc
 
 pub record SpanWithin (p : List ℕ) (x : Span Tail) : Type 0 where
   pub text_from : (whole_of x).start ≤ (text_of p x).start
@@ -91,8 +90,9 @@ module _ (p : List ℕ) (labels : List (List ℕ)) (m : Marking Tail) (c : Meets
   span_within (pair_span x o d t) s = pair_within x o d t s
 
 -- ---- the destination and the title of an inline link or image
-moved_between : (at n : ℕ) (r : Range) → PartIn r n → PartBetween at (at + n) (moved at r)
-moved_between at n r i = by (eqb r.start 0) (λ e. rw e tt) (λ e. rw e (omega arith, omega (arith, i.ordered), omega (arith, i.inside)))
+moved_between : (at n : ℕ) (r : Found Range) → PartIn r n → PartBetween at (at + n) (moved at r)
+moved_between at n (Some r) i = (omega arith, omega (arith, i.ordered), omega (arith, i.inside))
+moved_between at n None i = tt
 
 read_between : (s : List ℕ) (at n : ℕ) (d t : Option Range) → ReadAs s at (inline n d t) → PartBetween at (at + n) d × PartBetween at (at + n) t
 read_between s at n d t r =
@@ -115,9 +115,9 @@ read_between s at n d t r =
 -- only the first rule gives an inline tail
 inline_only : {labels : List (List ℕ)} {text s : List ℕ} {at : ℕ} {x : Tail} → TailOf labels text s at x → {n : ℕ} {d t : Option Range} → x ≡ inline n d t → InlineFollows s at x
 inline_only (first i) e = i
-inline_only (second l a b f) e = let z : ◌≡◌ {A = ℕ} 0 1 = cc in absurd (omega arith)
-inline_only (third a b l f k) e = let z : ◌≡◌ {A = ℕ} 0 1 = cc in absurd (omega arith)
-inline_only (third_alone a b l f k) e = let z : ◌≡◌ {A = ℕ} 0 1 = cc in absurd (omega arith)
+inline_only (second l a b f) e = cc
+inline_only (third a b l f k) e = cc
+inline_only (third_alone a b l f k) e = cc
 
 module _ (p : List ℕ) (labels : List (List ℕ)) (m : Marking Tail) (c : Meets (rules p labels) m) where
   -- a closing piece is one byte

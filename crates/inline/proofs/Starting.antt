@@ -1,4 +1,5 @@
 -- `piece_from` gives exactly the pieces that the bytes start.
+use Rattle.std.specs.Prelude.{None, Option, Some}
 use Prim.Native.Nat.{ℕ, suc, ◌+◌, ◌<◌}
 use native.Mathlib.Omega.{arith}
 use mathlib.Core.Path.{◌≡◌, refl, ap, ◌∙◌}
@@ -13,8 +14,6 @@ use Rattle.scan.specs.Byte.{punctuation, escapes}
 use Rattle.scan.proofs.Scan.{peek_inside}
 use Rattle.scan.specs.Reading.{run}
 use Rattle.scan.proofs.Every.{run_iff}
-use Rattle.scan.specs.declared.Found.{Found}
-use Rattle.scan.specs.declared.Found.TheVariants.{At, Nothing}
 use Rattle.marking.specs.Marking.{Piece}
 use Rattle.inline.specs.Pieces.{backtick, image_opens, Backticks, Starts, an_escape, a_code_span, backticks, opening, image_opening, closing, other}
 use Rattle.inline.specs.ReadingPieces.{closing_run, piece, span_or_text, ticked, kind_of, piece_from}
@@ -32,7 +31,7 @@ module _ (p : List ℕ) (a : ℕ) where
     first_tick : get_or p a 0 ≡ 96
     first_tick = eqb-true (get_or p a 0) 96 (ticks_first p a n r)
 
-    from_run : (f : Found) → closing_run n (drop (a + n) p) (a + n) ≡ f → piece_from p a ≡ span_or_text a (a + n) f
+    from_run : (f : Option ℕ) → closing_run n (drop (a + n) p) (a + n) ≡ f → piece_from p a ≡ span_or_text a (a + n) f
     from_run f e =
         from_backticks p a (no_escape p a (λ q. omega (arith, first_tick))) (ticks_first p a n r)
         ∙ ap (ticked p a) ((run_iff backtick (drop a p) n).1 r.run)
@@ -53,12 +52,12 @@ module _ (p : List ℕ) where
   complete (a_code_span {a} {n} {b} r f) =
       record {
         inside = inside p a (first_tick p a n r);
-        from = from_run p a n r (At (b + n)) ((closing_run_iff p (a + n) n r.nonempty (ticks_end p a n r) (b + n)).1 (record { place = b; first = f; ends = refl }));
+        from = from_run p a n r (Some (b + n)) ((closing_run_iff p (a + n) n r.nonempty (ticks_end p a n r) (b + n)).1 (record { place = b; first = f; ends = refl }));
       }
   complete (backticks {a} {n} r f) =
       record {
         inside = inside p a (first_tick p a n r);
-        from = from_run p a n r Nothing ((no_closing_run_iff p (a + n) n r.nonempty (ticks_end p a n r)).1 f);
+        from = from_run p a n r None ((no_closing_run_iff p (a + n) n r.nonempty (ticks_end p a n r)).1 f);
       }
   complete (opening {a} e) = record { inside = inside p a e; from = at_open p a e }
   complete (image_opening {a} e) = record { inside = inside p a (image_bytes p a e).0; from = at_image p a e }
@@ -66,11 +65,11 @@ module _ (p : List ℕ) where
   complete (other {a} h e i m) = record { inside = h; from = at_plain p a e i m }
 
   module _ (a : ℕ) (h : a < length p) where
-    sound_run : (n : ℕ) → Backticks p a n → (f : Found) → closing_run n (drop (a + n) p) (a + n) ≡ f → Starts p (span_or_text a (a + n) f)
-    sound_run n r (At e) q =
+    sound_run : (n : ℕ) → Backticks p a n → (f : Option ℕ) → closing_run n (drop (a + n) p) (a + n) ≡ f → Starts p (span_or_text a (a + n) f)
+    sound_run n r (Some e) q =
         let m = (closing_run_iff p (a + n) n r.nonempty (ticks_end p a n r) e).0 q in
         rw m.ends (a_code_span r m.first)
-    sound_run n r Nothing q = backticks r ((no_closing_run_iff p (a + n) n r.nonempty (ticks_end p a n r)).0 q)
+    sound_run n r None q = backticks r ((no_closing_run_iff p (a + n) n r.nonempty (ticks_end p a n r)).0 q)
 
     sound_byte : escapes (drop a p) ≡ false → backtick (get_or p a 0) ≡ false → image_opens (drop a p) ≡ false → Starts p (piece (kind_of (get_or p a 0)) a (a + 1))
     sound_byte e t i =

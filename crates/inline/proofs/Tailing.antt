@@ -1,4 +1,6 @@
 -- `tail_of` gives exactly the tail that the three rules give.
+use Rattle.std.specs.Prelude.{None, Option as Found, Some}
+use Rattle.std.proofs.lemmas.Option.{none-some}
 use Prim.Native.Nat.{ℕ, ◌+◌, ◌-◌}
 use native.Mathlib.Omega.{arith}
 use mathlib.Core.Path.{◌≡◌, refl, sym, ap, ap₂, ◌∙◌, subst}
@@ -11,9 +13,6 @@ use lib.ListN.{length, get_or, take, drop}
 use lib.Seq.{take_at}
 use lib.Dec.{eqb}
 use Rattle.scan.proofs.Test.{by, and_left, and_right}
-use Rattle.scan.specs.declared.Found.{Found}
-use Rattle.scan.specs.declared.Found.TheVariants.{At, Nothing}
-use Rattle.scan.proofs.Closing.{never}
 use Rattle.label.specs.Label.{IsLabel, LabelAt}
 use Rattle.label.specs.Reading.{is_label}
 use Rattle.label.proofs.Label.{label_end_iff, is_label_iff}
@@ -23,10 +22,9 @@ use Rattle.row.specs.Reading.{first_match}
 use Rattle.row.proofs.First.{first_equal}
 use Rattle.inline.specs.Tails.{Tail, full, collapsed, shortcut, InlineFollows, LabelFollows, EmptyFollows, TailOf, first, second, third, third_alone}
 use Rattle.inline.specs.ReadingTails.{inline_of, label_after, empty_after, full_by, short_by, text_tail, reference_by, reference_of, moved_parts, tail_by, tail_of}
-use Rattle.inline.specs.declared.InlineTail.{InlineTail}
-use Rattle.inline.specs.declared.InlineTail.TheVariants as inlines
+use Rattle.inline.specs.declared.InlineParts.{InlineParts}
 use Rattle.inline.proofs.InlineComplete.{inline_read}
-use Rattle.inline.proofs.InlineSound.{never_parts, inline_sound}
+use Rattle.inline.proofs.InlineSound.{inline_sound}
 
 -- ---- rule 1
 module _ (s : List ℕ) (at : ℕ) where
@@ -34,15 +32,15 @@ module _ (s : List ℕ) (at : ℕ) where
   abbrev NoInline : Type 0
   NoInline = (t : Tail) → InlineFollows s at t → ⊥
 
-  no_inline : NoInline → inline_of s ≡ inlines.Nothing
+  no_inline : NoInline → inline_of s ≡ None
   no_inline n = by_answer (inline_of s) refl
     where
-      by_answer : (f : InlineTail) → inline_of s ≡ f → f ≡ inlines.Nothing
-      by_answer (inlines.Parts q) e = absurd (n (moved_parts at q) (inline_sound s at q e))
-      by_answer inlines.Nothing e = refl
+      by_answer : (f : Found InlineParts) → inline_of s ≡ f → f ≡ None
+      by_answer (Some q) e = absurd (n (moved_parts at q) (inline_sound s at q e))
+      by_answer None e = refl
 
-  inline_none : inline_of s ≡ inlines.Nothing → NoInline
-  inline_none e t i = never_parts (sym e ∙ (inline_read s at i).reads)
+  inline_none : inline_of s ≡ None → NoInline
+  inline_none e t i = none-some _ (sym e ∙ (inline_read s at i).reads)
 
 -- ---- rule 2: the label that follows
 record LabelTo (s : List ℕ) (e : ℕ) : Type 0 where
@@ -51,7 +49,7 @@ record LabelTo (s : List ℕ) (e : ℕ) : Type 0 where
   place : e ≡ 1 + length label
 
 module _ (s : List ℕ) where
-  label_to : {label : List ℕ} → LabelFollows s label → label_after s ≡ At (1 + length label)
+  label_to : {label : List ℕ} → LabelFollows s label → label_after s ≡ Some (1 + length label)
   unfolding label_after
   label_to {label} f =
       let e : eqb (get_or s 0 0) 91 ≡ true = rw f.whole in
@@ -59,7 +57,7 @@ module _ (s : List ℕ) where
       ((label_end_iff (drop 1 s) 1 (1 + length label)).1
       (record { label = label; more = f.rest; whole = ap (drop 1) f.whole; is_a_label = f.is_a_label; place = refl }))
 
-  label_from : {e : ℕ} → label_after s ≡ At e → LabelTo s e
+  label_from : {e : ℕ} → label_after s ≡ Some e → LabelTo s e
   unfolding label_after
   label_from {e} q =
       by (eqb (get_or s 0 0) 91)
@@ -75,20 +73,20 @@ module _ (s : List ℕ) where
             };
         place = m.place;
       })
-      (λ k. absurd (never (rw (k, label_after) at q)))
+      (λ k. absurd (none-some _ (rw (k, label_after) at q)))
 
   label_bytes : {label : List ℕ} {e : ℕ} → LabelFollows s label → e ≡ 1 + length label → take (e - 1) (drop 1 s) ≡ label
   label_bytes {label} {e} f p = ap (λ (x : List ℕ). take (e - 1) (drop 1 x)) f.whole ∙ take_at label (93 ∷ f.rest) (e - 1) (omega arith)
 
-  no_label : ((label : List ℕ) → LabelFollows s label → ⊥) → label_after s ≡ Nothing
+  no_label : ((label : List ℕ) → LabelFollows s label → ⊥) → label_after s ≡ None
   no_label n = by_answer (label_after s) refl
     where
-      by_answer : (f : Found) → label_after s ≡ f → f ≡ Nothing
-      by_answer (At e) q = let m = label_from q in absurd (n m.label m.follows)
-      by_answer Nothing q = refl
+      by_answer : (f : Found ℕ) → label_after s ≡ f → f ≡ None
+      by_answer (Some e) q = let m = label_from q in absurd (n m.label m.follows)
+      by_answer None q = refl
 
-  label_none : label_after s ≡ Nothing → (label : List ℕ) → LabelFollows s label → ⊥
-  label_none q label f = never (sym q ∙ label_to f)
+  label_none : label_after s ≡ None → (label : List ℕ) → LabelFollows s label → ⊥
+  label_none q label f = none-some _ (sym q ∙ label_to f)
 
 -- ---- rule 3: `[]` follows
 empty_to : {s : List ℕ} → EmptyFollows s → empty_after s ≡ true
@@ -112,7 +110,7 @@ module _ (labels : List (List ℕ)) (text s : List ℕ) (at : ℕ) where
   to_text {k} n l f empty e =
       ap (reference_by labels text s) (no_label s n)
       ∙ rw ((is_label_iff text).1 l, text_tail)
-      (ap₂ (λ (b : Bool) (x : Found). short_by b x) e ((first_equal labels text k).1 f))
+      (ap₂ (λ (b : Bool) (x : Found ℕ). short_by b x) e ((first_equal labels text k).1 f))
 
   complete : {t : Tail} → TailOf labels text s at t → tail_of labels text s at ≡ some t
   unfolding tail_of
@@ -127,20 +125,20 @@ module _ (labels : List (List ℕ)) (text s : List ℕ) (at : ℕ) where
   complete (third_alone n l i f e) = to_references n ∙ to_text l i f false (by (empty_after s) (λ k. absurd (e (empty_from s k))) (λ k. k))
 
   module _ (n : NoInline s at) where
-    sound_full : (label : List ℕ) (e : ℕ) → LabelFollows s label → e ≡ 1 + length label → (x : Found) → first_match labels label ≡ x → {t : Tail} → full_by (e + 1) x ≡ some t → TailOf labels text s at t
-    sound_full label e f p (At k) q {t} r =
+    sound_full : (label : List ℕ) (e : ℕ) → LabelFollows s label → e ≡ 1 + length label → (x : Found ℕ) → first_match labels label ≡ x → {t : Tail} → full_by (e + 1) x ≡ some t → TailOf labels text s at t
+    sound_full label e f p (Some k) q {t} r =
         let m : length label + 2 ≡ e + 1 = omega arith in
         subst (TailOf labels text s at) (ap (λ (m : ℕ). full m k) m ∙ some-injective (full (e + 1) k) t r) (second label n f ((first_equal labels label k).0 q))
-    sound_full label e f p Nothing q {t} r = absurd (none-ne-some t r)
+    sound_full label e f p None q {t} r = absurd (none-ne-some t r)
 
-    sound_short : ((label : List ℕ) → LabelFollows s label → ⊥) → IsLabel text → (empty : Bool) → empty_after s ≡ empty → (x : Found) → first_match labels text ≡ x
+    sound_short : ((label : List ℕ) → LabelFollows s label → ⊥) → IsLabel text → (empty : Bool) → empty_after s ≡ empty → (x : Found ℕ) → first_match labels text ≡ x
         → {t : Tail} → short_by empty x ≡ some t → TailOf labels text s at t
-    sound_short l i true e (At k) q {t} r =
+    sound_short l i true e (Some k) q {t} r =
         subst (TailOf labels text s at) (some-injective (collapsed k) t r) (third n l i ((first_equal labels text k).0 q) (empty_from s e))
-    sound_short l i false e (At k) q {t} r =
+    sound_short l i false e (Some k) q {t} r =
         subst (TailOf labels text s at) (some-injective (shortcut k) t r)
         (third_alone n l i ((first_equal labels text k).0 q) (λ f. true≢false (sym (empty_to f) ∙ e)))
-    sound_short l i empty e Nothing q {t} r = absurd (none-ne-some t r)
+    sound_short l i empty e None q {t} r = absurd (none-ne-some t r)
 
     sound_text : ((label : List ℕ) → LabelFollows s label → ⊥) → {t : Tail} → text_tail labels text s ≡ some t → TailOf labels text s at t
     unfolding text_tail
@@ -148,16 +146,16 @@ module _ (labels : List (List ℕ)) (text s : List ℕ) (at : ℕ) where
         by (is_label text) (λ i. sound_short l ((is_label_iff text).0 i) (empty_after s) refl (first_match labels text) refl (rw (i, text_tail) at r))
         (λ i. absurd (none-ne-some t (rw (i, text_tail) at r)))
 
-    sound_reference : (x : Found) → label_after s ≡ x → {t : Tail} → reference_by labels text s x ≡ some t → TailOf labels text s at t
-    sound_reference (At e) q r =
+    sound_reference : (x : Found ℕ) → label_after s ≡ x → {t : Tail} → reference_by labels text s x ≡ some t → TailOf labels text s at t
+    sound_reference (Some e) q r =
         let m = label_from s q in
         sound_full m.label e m.follows m.place (first_match labels m.label) refl
         (ap (λ (l : List ℕ). full_by (e + 1) (first_match labels l)) (sym (label_bytes s m.follows m.place)) ∙ r)
-    sound_reference Nothing q r = sound_text (label_none s q) r
+    sound_reference None q r = sound_text (label_none s q) r
 
-  sound : (x : InlineTail) → inline_of s ≡ x → {t : Tail} → tail_by labels text s at x ≡ some t → TailOf labels text s at t
-  sound (inlines.Parts q) e {t} r = subst (TailOf labels text s at) (some-injective (moved_parts at q) t r) (first (inline_sound s at q e))
-  sound inlines.Nothing e r = sound_reference (inline_none s at e) (label_after s) refl r
+  sound : (x : Found InlineParts) → inline_of s ≡ x → {t : Tail} → tail_by labels text s at x ≡ some t → TailOf labels text s at t
+  sound (Some q) e {t} r = subst (TailOf labels text s at) (some-injective (moved_parts at q) t r) (first (inline_sound s at q e))
+  sound None e r = sound_reference (inline_none s at e) (label_after s) refl r
 
   pub tail_iff : (t : Tail) → TailOf labels text s at t ↔ (tail_of labels text s at ≡ some t)
   unfolding tail_of

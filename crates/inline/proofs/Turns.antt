@@ -1,4 +1,5 @@
 -- The ways through a turn of the loop over backticks, each premise a fact that the code has there; and one equation for each kind of start of a piece.
+use Rattle.std.specs.Prelude.{None, Some}
 use Prim.Native.Nat.{ℕ, ◌+◌, ◌≤◌}
 use native.Mathlib.Omega.{arith}
 use mathlib.Core.Path.{◌≡◌, ◌∙◌}
@@ -9,7 +10,6 @@ use lib.ListN.{get_or, drop}
 use lib.Dec.{eqb}
 use Rattle.scan.specs.Byte.{escapes}
 use Rattle.scan.specs.Reading.{stop, next, run}
-use Rattle.scan.specs.declared.Found.TheVariants.{At, Nothing}
 use Rattle.scan.proofs.Test.{by}
 use Rattle.marking.specs.Marking.{image, opens, escape}
 use Rattle.inline.specs.Pieces.{backtick, image_opens}
@@ -17,7 +17,7 @@ use Rattle.inline.specs.ReadingPieces.{Counted, count_after, run_step, run_done,
 
 module _ (n : ℕ) where
   module _ (t : Counted) (b : ℕ) (s : List ℕ) where
-    pub closes : (not (backtick b) && eqb t.count n) ≡ true → run_step n t b s ≡ stop (At t.at)
+    pub closes : (not (backtick b) && eqb t.count n) ≡ true → run_step n t b s ≡ stop (Some t.at)
     unfolding run_step
     closes h = simp h
 
@@ -26,11 +26,11 @@ module _ (n : ℕ) where
     passed h e = simp (h, e)
 
   module _ (t : Counted) where
-    pub ends_full : t.count ≡ n → run_done n t ≡ At t.at
+    pub ends_full : t.count ≡ n → run_done n t ≡ Some t.at
     unfolding run_done
     ends_full h = simp (eq-eqb t.count n h)
 
-    pub ends_other : (t.count ≡ n → ⊥) → run_done n t ≡ Nothing
+    pub ends_other : (t.count ≡ n → ⊥) → run_done n t ≡ None
     unfolding run_done
     ends_other h = simp (ne_eqb t.count n h)
 

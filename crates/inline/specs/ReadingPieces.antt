@@ -1,9 +1,7 @@
 -- The piece that starts at a place, by the bytes there.
-use Rattle.std.specs.Prelude.{ℕ, ◌+◌, List, Bool, true, false, cond, not, ◌&&◌, ◌||◌, get_or, drop, eqb}
+use Rattle.std.specs.Prelude.{ℕ, ◌+◌, List, Bool, true, false, cond, not, ◌&&◌, ◌||◌, get_or, drop, eqb, None, Option, Some}
 use Rattle.scan.specs.Byte.{escapes}
 use Rattle.scan.specs.Reading.{Step, stop, next, scan, run}
-use Rattle.scan.specs.declared.Found.{Found}
-use Rattle.scan.specs.declared.Found.TheVariants.{At, Nothing}
 use Rattle.marking.specs.Marking.{Kind, Piece, link, image, escape, code, plain, opens, closes}
 use Rattle.inline.specs.Pieces.{backtick, image_opens, marks}
 
@@ -17,18 +15,18 @@ unfoldable pub count_after : ℕ → ℕ → ℕ
 count_after c b = cond (backtick b) (c + 1) 0
 
 module _ (n : ℕ) where
-  unfoldable pub run_step : Counted → ℕ → List ℕ → Step Counted Found
+  unfoldable pub run_step : Counted → ℕ → List ℕ → Step Counted (Option ℕ)
   run_step t b s =
-      cond (not (backtick b) && eqb t.count n) (stop (At t.at)) (next (record { at = t.at + 1; count = count_after t.count b }))
+      cond (not (backtick b) && eqb t.count n) (stop (Some t.at)) (next (record { at = t.at + 1; count = count_after t.count b }))
 
-  unfoldable pub run_done : Counted → Found
-  run_done t = cond (eqb t.count n) (At t.at) Nothing
+  unfoldable pub run_done : Counted → Option ℕ
+  run_done t = cond (eqb t.count n) (Some t.at) None
 
-  abbrev pub run_from : List ℕ → Counted → Found
+  abbrev pub run_from : List ℕ → Counted → Option ℕ
   run_from = scan run_step run_done
 
   -- where the first maximal run of exactly n ends, in a text that starts at place `at` and not inside a run
-  unfoldable pub closing_run : List ℕ → ℕ → Found
+  unfoldable pub closing_run : List ℕ → ℕ → Option ℕ
   closing_run s at = run_from s (record { at = at; count = 0 })
 
 -- ---- the piece
@@ -40,9 +38,9 @@ abbrev pub piece : Kind → ℕ → ℕ → Piece
 piece k a e = record { kind = k; start = a; end = e }
 
 -- a run of backticks from a to e, by where the run that closes it ends
-abbrev pub span_or_text : ℕ → ℕ → Found → Piece
-span_or_text a e (At c) = piece code a c
-span_or_text a e Nothing = piece plain a e
+abbrev pub span_or_text : ℕ → ℕ → Option ℕ → Piece
+span_or_text a e (Some c) = piece code a c
+span_or_text a e None = piece plain a e
 
 abbrev pub ticked : List ℕ → ℕ → ℕ → Piece
 ticked p a n = span_or_text a (a + n) (closing_run n (drop (a + n) p) (a + n))

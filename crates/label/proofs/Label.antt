@@ -1,4 +1,5 @@
 -- `label_end` finds a place exactly where a label ends, and `is_label` says yes exactly of labels.
+use Rattle.std.specs.Prelude.{None, Option, Some}
 use Prim.Native.Nat.{ℕ, ◌+◌, ◌-◌, ◌≤◌, ◌<◌}
 use native.Mathlib.Nat.{zero-add}
 use native.Mathlib.Omega.{arith}
@@ -13,8 +14,6 @@ use lib.Dec.{leb}
 use Rattle.scan.proofs.Test.{by, and_left, and_right}
 use Rattle.scan.specs.Byte.{blank}
 use Rattle.scan.specs.Reading.{closing}
-use Rattle.scan.specs.declared.Found.{Found}
-use Rattle.scan.specs.declared.Found.TheVariants.{At, Nothing}
 use Rattle.scan.proofs.Closing.{never, at_inj, ClosedAt, closing_iff, closing_inside}
 use Rattle.text.specs.Sequences.{characters}
 use Rattle.label.specs.Label.{label_limit, Inked, IsLabel, LabelAt}
@@ -49,13 +48,17 @@ fits_iff l = (
 )
 
 -- ---- where a label ends
+-- the bracket that is found stands within the list
+pub within : (s : List ℕ) (at e : ℕ) → closing 93 91 93 (drop at s) at ≡ Some e → (at ≤ e) × (e < length s)
+within = closing_inside 93 91 93 refl
+
 take_text : (s text more : List ℕ) (at e : ℕ) → s ≡ text ++ 93 ∷ more → e ≡ at + length text → take (e - at) s ≡ text
 take_text s text more at e w p = rw w (take_at text (93 ∷ more) (e - at) (omega arith))
 
 module _ (s : List ℕ) (at e : ℕ) where
-  sound : (f : Found) → closing 93 91 93 s at ≡ f → judged s at f ≡ At e → LabelAt s at e
-  sound Nothing c q = absurd (never q)
-  sound (At d) c q =
+  sound : (f : Option ℕ) → closing 93 91 93 s at ≡ f → judged s at f ≡ Some e → LabelAt s at e
+  sound None c q = absurd (never q)
+  sound (Some d) c q =
       by (fits (take (d - at) s))
       (λ k.
       let same : d ≡ e = at_inj (rw k at q) in
@@ -70,17 +73,17 @@ module _ (s : List ℕ) (at e : ℕ) where
       })
       (λ k. absurd (never (rw k at q)))
 
-  complete : LabelAt s at e → judged s at (closing 93 91 93 s at) ≡ At e
+  complete : LabelAt s at e → judged s at (closing 93 91 93 s at) ≡ Some e
   complete m =
-      let c : closing 93 91 93 s at ≡ At e = (closing_iff 93 91 93 refl s at e).1 (record { text = m.label; more = m.more; closed = record { whole = m.whole; text = m.is_a_label.text }; place = m.place }) in
+      let c : closing 93 91 93 s at ≡ Some e = (closing_iff 93 91 93 refl s at e).1 (record { text = m.label; more = m.more; closed = record { whole = m.whole; text = m.is_a_label.text }; place = m.place }) in
       rw (c, take_text s m.label m.more at e m.whole m.place, (fits_iff m.label).1 (m.is_a_label.inked, m.is_a_label.short))
 
-  pub label_end_iff : (label_end s at ≡ At e) ↔ LabelAt s at e
+  pub label_end_iff : (label_end s at ≡ Some e) ↔ LabelAt s at e
   unfolding label_end
   label_end_iff = (sound (closing 93 91 93 s at) refl, complete)
 
 -- the bracket that is found stands within the list
-pub label_end_inside : (s : List ℕ) (at e : ℕ) → label_end (drop at s) at ≡ At e → (at ≤ e) × (e < length s)
+pub label_end_inside : (s : List ℕ) (at e : ℕ) → label_end (drop at s) at ≡ Some e → (at ≤ e) × (e < length s)
 label_end_inside s at e q =
     let m = (label_end_iff (drop at s) at e).0 q in
     closing_inside 93 91 93 refl s at e
@@ -88,9 +91,9 @@ label_end_inside s at e q =
 
 -- ---- exactly one label
 module _ (l : List ℕ) where
-  is_at_lem : (f : Found) → is_at (length l) f ≡ true → f ≡ At (length l)
-  is_at_lem (At e) q = ap At (eqb-true e (length l) q)
-  is_at_lem Nothing q = absurd (true≢false (sym q))
+  is_at_lem : (f : Option ℕ) → is_at (length l) f ≡ true → f ≡ Some (length l)
+  is_at_lem (Some e) q = ap Some (eqb-true e (length l) q)
+  is_at_lem None q = absurd (true≢false (sym q))
 
   whole_is : (m : ClosedAt 93 91 93 (l ++ 93 ∷ []) 0 (length l)) → m.text ≡ l
   whole_is m = sym (take_text (l ++ 93 ∷ []) m.text m.more 0 (length l) m.closed.whole m.place) ∙ take_at l (93 ∷ []) (length l - 0) (omega arith)

@@ -1,4 +1,5 @@
 -- The turns of a loop that reads l as if a `]` followed it.
+use Rattle.std.specs.Prelude.{None, Option, Some}
 use Prim.Native.Nat.{ℕ, ◌+◌, ◌≤◌, ◌<◌}
 use native.Mathlib.Nat.{add-zero}
 use native.Mathlib.Omega.{arith}
@@ -14,8 +15,6 @@ use Rattle.scan.specs.Byte.{punctuation, escapes}
 use Rattle.scan.specs.Reading.{bare, scan, closing_step, closing_from, closing}
 use Rattle.scan.proofs.Scan.{scan_cons, at_cons}
 use Rattle.scan.proofs.Closing.{closes, bars, passed}
-use Rattle.scan.specs.declared.Found.{Found}
-use Rattle.scan.specs.declared.Found.TheVariants.{At, Nothing}
 use Rattle.label.specs.Reading.{is_at, escapes_in, unclosed}
 
 -- neither of two, so not the second
@@ -25,11 +24,15 @@ right_not true false y e = e
 right_not false x y e = refl
 
 -- reading stands at i, with l from there on and a `]` after it
-abbrev pub goes_on : List ℕ → ℕ → Bool → Found
+abbrev pub goes_on : List ℕ → ℕ → Bool → Option ℕ
 goes_on l i inside = closing_from 93 91 93 (drop i l ++ 93 ∷ []) (record { at = i; inside = inside })
 
 abbrev pub Goes : List ℕ → ℕ → Bool → Type 0
 Goes l i inside = goes_on l i inside ≡ closing 93 91 93 (l ++ 93 ∷ []) 0
+
+pub started : (l : List ℕ) → Goes l 0 false
+unfolding closing
+started l = refl
 
 -- an escape starts with the byte b, where a `]` follows l
 second : (b : ℕ) (l : List ℕ) → escapes (b ∷ (l ++ 93 ∷ [])) ≡ (eqb b 92 && (eqb 0 (length l) || punctuation (get_or l 0 0)))
@@ -47,15 +50,15 @@ module _ (l : List ℕ) (i : ℕ) (inside : Bool) (inv : Goes l i inside) where
     open_here : closing_from 93 91 93 (here ∷ rest) (record { at = i; inside = inside }) ≡ closing 93 91 93 (l ++ 93 ∷ []) 0
     open_here = rw (at_cons l i h) at inv
 
-    answers : (a : Found) → a ≡ closing 93 91 93 (l ++ 93 ∷ []) 0 → is_at (length l) a ≡ unclosed l
+    answers : (a : Option ℕ) → a ≡ closing 93 91 93 (l ++ 93 ∷ []) 0 → is_at (length l) a ≡ unclosed l
     unfolding unclosed
     answers a e = ap (is_at (length l)) e
 
     pub refused : (not inside && (eqb here 91 || eqb here 93)) ≡ true → false ≡ unclosed l
     refused r =
         by (bare 93 here inside)
-        (λ c. sym (ne_eqb i (length l) (λ e. omega arith)) ∙ answers (At i) (sym (scan_cons _ _ here rest _ (closes 93 91 93 _ _ _ c)) ∙ open_here))
-        (λ c. answers Nothing (sym (scan_cons _ _ here rest _ (bars 93 91 93 _ _ _ c r)) ∙ open_here))
+        (λ c. sym (ne_eqb i (length l) (λ e. omega arith)) ∙ answers (Some i) (sym (scan_cons _ _ here rest _ (closes 93 91 93 _ _ _ c)) ∙ open_here))
+        (λ c. answers None (sym (scan_cons _ _ here rest _ (bars 93 91 93 _ _ _ c r)) ∙ open_here))
 
     -- the byte after this one, or the `]`
     next_byte : escapes (here ∷ rest) ≡ escapes_in l i

@@ -1,16 +1,14 @@
 -- Where a label ends, and whether bytes are one.
-use Rattle.std.specs.Prelude.{ℕ, ◌+◌, ◌-◌, List, [], ◌∷◌, ◌++◌, Bool, false, cond, not, ◌&&◌, ◌||◌, length, get_or, take, leb, eqb}
+use Rattle.std.specs.Prelude.{ℕ, ◌+◌, ◌-◌, List, [], ◌∷◌, ◌++◌, Bool, false, cond, not, ◌&&◌, ◌||◌, length, get_or, take, leb, eqb, None, Option, Some}
+use Rattle.std.specs.List.{list_any}
 use Rattle.scan.specs.Byte.{punctuation, blank}
 use Rattle.scan.specs.Reading.{closing}
-use Rattle.scan.specs.declared.Found.{Found}
-use Rattle.scan.specs.declared.Found.TheVariants.{At, Nothing}
 use Rattle.text.specs.Sequences.{characters}
 use Rattle.label.specs.Label.{label_limit}
 
 -- some byte is not blank
 unfoldable pub inky : List ℕ → Bool
-inky [] = false
-inky (b ∷ l) = not (blank b) || inky l
+inky l = list_any (λ b. not (blank b)) l
 
 -- what a label needs besides its brackets, where `inked` and n tell of the bytes before l
 unfoldable pub fits_after : Bool → ℕ → List ℕ → Bool
@@ -20,17 +18,17 @@ unfoldable pub fits : List ℕ → Bool
 fits l = fits_after false 0 l
 
 -- the place of a label's closing bracket, by where the text before it ends
-abbrev pub judged : List ℕ → ℕ → Found → Found
-judged s at (At e) = cond (fits (take (e - at) s)) (At e) Nothing
-judged s at Nothing = Nothing
+abbrev pub judged : List ℕ → ℕ → Option ℕ → Option ℕ
+judged s at (Some e) = cond (fits (take (e - at) s)) (Some e) None
+judged s at None = None
 
 -- from just after a `[`, at place `at`: the place of the label's `]`
-unfoldable pub label_end : List ℕ → ℕ → Found
+unfoldable pub label_end : List ℕ → ℕ → Option ℕ
 label_end s at = judged s at (closing 93 91 93 s at)
 
-abbrev pub is_at : ℕ → Found → Bool
-is_at n (At e) = eqb e n
-is_at n Nothing = false
+abbrev pub is_at : ℕ → Option ℕ → Bool
+is_at n (Some e) = eqb e n
+is_at n None = false
 
 -- the byte at i of l starts an escape, where a `]` follows l
 abbrev pub escapes_in : List ℕ → ℕ → Bool

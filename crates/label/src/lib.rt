@@ -1,85 +1,58 @@
 // Link labels: where one ends, and whether bytes are one.
 #![tactic(auto)]
 
-ghost use Rattle.std.specs.Prelude.{◌≡◌, ◌≤◌, ◌<◌, length, drop, leb};
-ghost use Rattle.text.specs.Sequences.{starting, characters};
+ghost use Rattle.std.specs.Prelude.{◌≡◌, ◌<◌, length, drop, leb};
+ghost use Rattle.text.specs.Sequences.{characters};
 ghost use Rattle.label.specs.Label.{label_limit};
 ghost use Rattle.label.specs.Reading.{inky, fits, label_end, escapes_in, unclosed, is_label};
-
-use scan::Found;
 
 // The most characters that a label may have.
 pub const LABEL_LIMIT: usize = 999;
 
-// 1 where `b` starts a character, 0 where it goes on with one.
-fn starts_character(b: u8) -> usize
-    ensures value { result ≡ starting b }
-    ensures small { result ≤ 1 }
-{
-    if text::sequence_length(b) == 0 {
-        return 0;
-    }
-    1
-}
-
 // How many characters `l` has.
+#[tactic(auto, unfolding(text::specs::Sequences::characters))]
 fn character_count(l: &[u8]) -> usize
     ensures { result ≡ characters l.now }
 {
-    let mut i = 0;
-    let mut n: usize = 0;
-    while i < l.len() {
-        n += starts_character(l[i]);
-        i += 1;
-    }
-    n
+    l.iter()
+        .filter(|b| text::sequence_length(**b).is_some())
+        .count()
 }
 
 // Whether `l` has a byte that is not blank.
+#[tactic(auto, unfolding(crate::specs::Reading::inky))]
 fn is_inked(l: &[u8]) -> bool
     ensures { result ≡ inky l.now }
 {
-    let mut i = 0;
-    while i < l.len() {
-        let b = l[i];
-        if !((b == 32) | (b == 9) | (b == 10)) {
-            return true;
-        }
-        i += 1;
-    }
-    false
+    l.iter().any(|b| !scan::is_blank(*b))
 }
 
 // Whether `l` has at most so many characters. They are counted only where there are more bytes than that.
+#[tactic(auto, using(crate::proofs::Fits::few_bytes))]
 fn is_short(l: &[u8]) -> bool
     ensures { result ≡ leb (characters l.now) label_limit }
 {
-    if l.len() <= LABEL_LIMIT {
-        return true;
-    }
-    character_count(l) <= LABEL_LIMIT
+    l.len() <= LABEL_LIMIT || character_count(l) <= LABEL_LIMIT
 }
 
 // Whether `l` has a byte that is not blank, and at most so many characters.
+#[tactic(auto, unfolding(crate::specs::Reading::fits, crate::specs::Reading::fits_after))]
 fn label_fits(l: &[u8]) -> bool
     ensures { result ≡ fits l.now }
 {
-    is_inked(l) & is_short(l)
+    is_inked(l) && is_short(l)
 }
 
 // From just after a `[`: the place of the label's `]`.
-pub fn label_end(s: &[u8], at: usize) -> Found
+#[tactic(auto, using(crate::proofs::Label::within), unfolding(crate::specs::Reading::label_end))]
+pub fn label_end(s: &[u8], at: usize) -> Option<usize>
     ensures { result ≡ label_end (drop at s.now) at }
 {
-    match scan::closing_place(s, at, 93, 91, 93) {
-        Found::At(e) => {
-            if label_fits(&s[at..e]) {
-                return Found::At(e);
-            }
-            Found::Nothing
-        }
-        Found::Nothing => Found::Nothing,
+    let end = scan::closing_place(s, at, 93, 91, 93)?;
+    if label_fits(&s[at..end]) {
+        return Some(end);
     }
+    None
 }
 
 // Whether the byte at `i` of `l`, which a `]` follows, starts an escape.
@@ -87,36 +60,30 @@ fn escape_in(l: &[u8], i: usize) -> bool
     requires { i < length l.now }
     ensures { result ≡ escapes_in l.now i }
 {
-    if l[i] != 92 {
-        return false;
-    }
-    (i + 1 == l.len()) | scan::is_punctuation(scan::peek(l, i + 1))
+    l[i] == 92 && (i + 1 == l.len() || scan::is_punctuation(scan::peek(l, i + 1)))
 }
 
 // Whether the `]` of `[` and `l` and `]` is the first that closes, and no other `[` opens before it.
+#[tactic(auto, using(crate::proofs::Unclosed::started, crate::proofs::Unclosed::refused, crate::proofs::Unclosed::went, crate::proofs::Unclosed::ended))]
 fn ends_unclosed(l: &[u8]) -> bool
     ensures { result ≡ unclosed l.now }
 {
-    let mut i = 0;
     let mut inside = false;
-    while i < l.len() {
+    for i in 0..l.len() {
         let b = l[i];
         if !inside & ((b == 91) | (b == 93)) {
             return false;
         }
         inside = !inside & escape_in(l, i);
-        i += 1;
     }
     !inside
 }
 
 // Whether `l`, set between `[` and `]`, is exactly one label. A text that holds a bracket is left at the first one, so that texts inside
 // each other are read once in all.
+#[tactic(auto, unfolding(crate::specs::Reading::is_label))]
 pub fn is_label(l: &[u8]) -> bool
     ensures { result ≡ is_label l.now }
 {
-    if !ends_unclosed(l) {
-        return false;
-    }
-    label_fits(l)
+    ends_unclosed(l) && label_fits(l)
 }

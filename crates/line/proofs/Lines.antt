@@ -4,7 +4,8 @@ use native.Mathlib.Nat.{zero-add}
 use native.Mathlib.Omega.{arith}
 use mathlib.Core.Path.{◌≡◌, refl, sym, ap, ap₂, ◌∙◌}
 use mathlib.Core.List.{List, [], ◌∷◌, ◌++◌}
-use mathlib.Core.Bool.{Bool, true, false, ◌||◌}
+use mathlib.Core.Bool.{Bool, true, false, cond, ◌||◌}
+use Rattle.std.proofs.lemmas.List.Sums.{sum_by-cons, sum_by-append, count_by-le-length}
 use borrow.Author.Tests.{lt-ltb, le-ltb, leb-true, leb-false, ltb-true}
 use lib.Dec.{eqb, leb, ltb}
 use lib.ListN.{length, take, drop, length-take, length-drop}
@@ -20,11 +21,11 @@ use Rattle.line.specs.declared.Line.{Line}
 module _ (b : ℕ) (s : List ℕ) where
   feeds_feed : eqb b 10 ≡ true → feeds (b ∷ s) ≡ 1 + feeds s
   unfolding feeds
-  feeds_feed e = rw e refl
+  feeds_feed e = sum_by-cons (λ x. cond (eqb x 10) 1 0) b s ∙ rw e
 
   feeds_other : eqb b 10 ≡ false → feeds (b ∷ s) ≡ feeds s
   unfolding feeds
-  feeds_other e = rw e (zero-add (feeds s))
+  feeds_other e = sum_by-cons (λ x. cond (eqb x 10) 1 0) b s ∙ rw (e, zero-add)
 
   length_feed : eqb b 10 ≡ true → line_length (b ∷ s) ≡ 1
   unfolding line_length
@@ -36,13 +37,11 @@ module _ (b : ℕ) (s : List ℕ) where
 
 feeds_append : (a b : List ℕ) → feeds (a ++ b) ≡ feeds a + feeds b
 unfolding feeds
-feeds_append [] b = sym (zero-add (feeds b))
-feeds_append (x ∷ a) b = omega (arith, feeds_append a b)
+feeds_append a b = sum_by-append (λ x. cond (eqb x 10) 1 0) a b
 
 feeds_fit : (s : List ℕ) → feeds s ≤ length s
 unfolding feeds
-feeds_fit [] = omega arith
-feeds_fit (b ∷ s) = by (eqb b 10) (λ e. rw e (omega (arith, feeds_fit s))) (λ e. rw e (omega (arith, feeds_fit s)))
+feeds_fit s = count_by-le-length (λ x. eqb x 10) s
 
 -- ---- the line at the front of a text: its LF, if it has one, is its last byte
 same_end : (s : List ℕ) (k : ℕ) → k < line_length s → k + line_length (drop k s) ≡ line_length s

@@ -12,7 +12,7 @@ pub struct Line {
 }
 
 impl Line {
-    // Before the first line.
+    // Before the first line. A line and no Option: counting goes on from it as from every other line.
     pub fn none() -> Line
         ensures { result ≡ none }
     {
@@ -21,6 +21,7 @@ impl Line {
 }
 
 // The line on which `place` stands, from that of an earlier place on. Nothing is counted where it is the same.
+#[tactic(auto, using(crate::proofs::Lines::number_fits))]
 pub fn line_at(s: &[u8], from: Line, place: usize) -> Line
     requires before { Before s.now from place }
     requires place_in_bounds { place < length s.now }

@@ -1,13 +1,14 @@
 -- `folds` is the folding of a label, and the only one.
 use Prim.Native.Nat.{ℕ, zero, suc, ◌≤◌, ◌<◌}
 use native.Mathlib.Omega.{arith}
-use mathlib.Core.Path.{◌≡◌, refl, ap, ◌∙◌}
+use mathlib.Core.Path.{◌≡◌, refl, sym, ap, ◌∙◌}
 use mathlib.Core.Logic.{◌↔◌}
 use mathlib.Core.List.{List, [], ◌∷◌, ◌++◌}
 use mathlib.Core.Bool.{true}
-use borrow.Author.Tests.{eqb-true, eqb-false, ltb-true, ltb-false}
-use lib.Dec.{eqb, ltb}
+use borrow.Author.Tests.{ltb-true, ltb-false}
+use lib.Dec.{ltb}
 use lib.ListN.{length, length-append}
+use Rattle.std.specs.Prelude.{Option, Some, None}
 use Rattle.scan.proofs.Test.{by}
 use Rattle.text.specs.Utf8.{◌‥◌, table, Character, Begins}
 use Rattle.text.specs.Reading.{character_length}
@@ -69,36 +70,28 @@ folded_read (bad {b} {l} n h) = bad_folds b l n ∙ ap (λ (r : List ℕ). b ∷
 from_character : {l : List ℕ} {n : ℕ} (w : Begins Character l n) → Folded w.rest (folds w.rest) → Folded l (folds l)
 from_character w h = rw w.whole (rw (character_folds w.rest w.class) (good w.class h))
 
-none_starts : (l : List ℕ) → character_length l ≡ 0 → Starts l
-none_starts l e n w =
-    let a : character_length l ≡ n = character_complete w in
-    let b : 0 < length w.one = character_size w.class in
-    let c = w.size in
-    omega arith
+none_starts : (l : List ℕ) → character_length l ≡ None → Starts l
+none_starts l e n w = let a : None ≡ Some n = sym e ∙ character_complete w in grind (arith, a)
 
 rest_length : {l : List ℕ} {n : ℕ} (w : Begins Character l n) → length w.rest < length l
 rest_length w =
     let b : 0 < length w.one = character_size w.class in
     rw w.whole (rw length-append (omega arith))
 
-positive : (n : ℕ) → (n ≡ 0 → ⊥) → 0 < n
-positive zero z = absurd (z refl)
-positive (suc n) z = omega arith
-
 abbrev Has : List ℕ → Type 0
 Has l = Folded l (folds l)
+
+has_by : (b : ℕ) (l : List ℕ) → ((m : List ℕ) → length m ≤ length l → Has m) → (c : Option ℕ) → character_length (b ∷ l) ≡ c → Has (b ∷ l)
+has_by b l f None e = let n = none_starts (b ∷ l) e in rw (bad_folds b l n) (bad n (f l (omega arith)))
+has_by b l f (Some n) e =
+    let w : Begins Character (b ∷ l) n = character_sound (b ∷ l) n e in
+    let m = rest_length w in
+    from_character w (f w.rest (omega arith))
 
 has_next : (k : ℕ) → ((m : List ℕ) → length m ≤ k → Has m) → (l : List ℕ) → length l ≤ suc k → Has l
 unfolding folds_from
 has_next k f [] h = none
-has_next k f (b ∷ l) h =
-    by (eqb (character_length (b ∷ l)) 0)
-    (λ e. let n = none_starts (b ∷ l) (eqb-true _ _ e) in rw (bad_folds b l n) (bad n (f l (omega arith))))
-    (λ e.
-    let z = eqb-false (character_length (b ∷ l)) 0 e in
-    let w : Begins Character (b ∷ l) (character_length (b ∷ l)) = character_sound (b ∷ l) (character_length (b ∷ l)) (positive _ z) refl in
-    let m = rest_length w in
-    from_character w (f w.rest (omega arith)))
+has_next k f (b ∷ l) h = has_by b l (λ m g. f m (omega arith)) (character_length (b ∷ l)) refl
 
 has_none : (l : List ℕ) → length l ≤ 0 → Has l
 unfolding folds_from

@@ -7,6 +7,7 @@ use mathlib.Core.List.{List, []}
 use mathlib.Core.Bool.{Bool, true, false, true≢false, cond, not, ◌&&◌, ◌||◌}
 use borrow.Author.Tests.{eq-eqb, ne_eqb, eqb-true, not-true}
 use lib.Dec.{eqb}
+use Rattle.std.specs.Int.{from_bool}
 use lib.ListN.{length, get_or, drop, length-drop, drop_of_length-le}
 use Rattle.scan.proofs.Test.{by}
 use Rattle.scan.specs.Reading.{run, past}
@@ -17,6 +18,10 @@ use Rattle.most.specs.Most.{special, bit, ends, look, stays, held}
 use Rattle.most.specs.Counting.{bracket, ends_mark, with_mark}
 use Rattle.most.specs.declared.Counted.{Counted}
 use Rattle.most.proofs.Counts.{ends_at, held_at, look_at, look_same, held_same, ends_same, ends_run, held_run}
+
+pub one_if : (y : Bool) → from_bool y ≡ bit y
+one_if true = refl
+one_if false = refl
 
 -- a plain byte is not special
 pub plain_special : (b : ℕ) → quiet b ≡ true → special b ≡ false
@@ -56,13 +61,13 @@ past_within test p a e h = omega (arith, run_fits test (drop a p), length-drop a
 
 -- at place i of p
 pub record Counting (p : List ℕ) (i : ℕ) (m : Counted) : Type 0 where
-  pub ends_are : m.ends + ends (drop i p) ≡ ends p
-  pub held_are : m.held + bit (eqb m.last 91 && stays (drop i p)) + held (drop i p) ≡ held p
-  pub few_ends : m.ends ≤ i
-  pub few_held : m.held ≤ i
+  pub ends_are : m.most.ends + ends (drop i p) ≡ ends p
+  pub held_are : m.most.held + bit (m.opened && stays (drop i p)) + held (drop i p) ≡ held p
+  pub few_ends : m.most.ends ≤ i
+  pub few_held : m.most.held ≤ i
   pub inside : i ≤ length p
 
-pub counting_starts : (p : List ℕ) → Counting p 0 record { last = 0; ends = 0; held = 0 }
+pub counting_starts : (p : List ℕ) → Counting p 0 record { opened = false; most = record { ends = 0; held = 0 } }
 counting_starts p = record { ends_are = omega arith; held_are = omega arith; few_ends = omega arith; few_held = omega arith; inside = omega arith }
 
 module _ (p : List ℕ) (i : ℕ) (h : i < length p) {m : Counted} (c : Counting p i m) where
@@ -94,7 +99,7 @@ module _ (p : List ℕ) (i : ℕ) (h : i < length p) {m : Counted} (c : Counting
           ends_are = omega (arith, c.ends_are, el);
           held_are = omega (arith, k, hl);
           few_ends = omega (arith, c.few_ends, small (ends_mark (get_or p i 0)));
-          few_held = omega (arith, c.few_held, small (eqb m.last 91 && not (eqb (get_or p i 0) 93)));
+          few_held = omega (arith, c.few_held, small (m.opened && not (eqb (get_or p i 0) 93)));
           inside = within;
         })
 
@@ -147,13 +152,13 @@ past_on test p i e = omega (arith, past_after test p (i + 1) e)
 
 -- ---- at the end
 module _ (p : List ℕ) (i : ℕ) (h : length p ≤ i) {m : Counted} (c : Counting p i m) where
-  pub all_ends : m.ends ≡ ends p
+  pub all_ends : m.most.ends ≡ ends p
   unfolding ends
   all_ends = let z : drop i p ≡ [] = drop_of_length-le p h in let e = rw z at c.ends_are in omega arith
 
-  pub all_held : {n : ℕ} → n ≡ m.held + bit (eqb m.last 91) → n ≡ held p
+  pub all_held : {n : ℕ} → n ≡ m.most.held + bit (m.opened) → n ≡ held p
   unfolding held look
   all_held e =
       let z : drop i p ≡ [] = drop_of_length-le p h in
       let k = rw z at c.held_are in
-      by (eqb m.last 91) (λ q. let a = rw q at k in let b = rw q at e in omega arith) (λ q. let a = rw q at k in let b = rw q at e in omega arith)
+      by (m.opened) (λ q. let a = rw q at k in let b = rw q at e in omega arith) (λ q. let a = rw q at k in let b = rw q at e in omega arith)

@@ -12,4 +12,4 @@ abbrev pub ends_mark : ℕ → Bool
 ends_mark b = eqb b 93 || eqb b 96
 
 unfoldable pub with_mark : Counted → ℕ → Counted
-with_mark m b = record { last = b; ends = m.ends + bit (ends_mark b); held = m.held + bit (eqb m.last 91 && not (eqb b 93)) }
+with_mark m b = record { opened = eqb b 91; most = record { ends = m.most.ends + bit (ends_mark b); held = m.most.held + bit (m.opened && not (eqb b 93)) } }

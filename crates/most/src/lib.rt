@@ -4,7 +4,7 @@
 
 ghost use Rattle.std.specs.Prelude.{◌≡◌, ◌+◌, ◌<◌, ◌^◌, length};
 ghost use Rattle.most.specs.Counting.{bracket, ends_mark, with_mark};
-ghost use Rattle.most.specs.Most.{bit, ends, held};
+ghost use Rattle.most.specs.Most.{ends, held};
 
 // Marks with which a span may end, and brackets that may stay open.
 #[derive(Clone, Copy)]
@@ -27,35 +27,27 @@ fn ends_mark(b: u8) -> bool
     (b == 93) | (b == 96)
 }
 
-// One more where it is so.
-fn plus_one_if(n: usize, yes: bool) -> usize
-    requires { n + 1 < 2 ^ 64 }
-    ensures { result ≡ n + bit yes }
-{
-    if yes {
-        return n + 1;
-    }
-    n
-}
-
-// What was counted so far, and the last bracket, backtick or backslash that was passed.
+// What was counted so far, and whether a `[` is the last bracket, backtick or backslash that was passed.
 #[derive(Clone, Copy)]
 struct Counted {
-    last: u8,
-    ends: usize,
-    held: usize,
+    opened: bool,
+    most: Most,
 }
 
-// With one mark more: a bracket, a backslash, or the backticks of a run together.
-fn with_mark(m: Counted, b: u8) -> Counted
-    requires ends_bound { m.ends + 1 < 2 ^ 64 }
-    requires held_bound { m.held + 1 < 2 ^ 64 }
-    ensures { result ≡ with_mark m b }
-{
-    Counted {
-        last: b,
-        ends: plus_one_if(m.ends, ends_mark(b)),
-        held: plus_one_if(m.held, (m.last == 91) & !(b == 93)),
+impl Counted {
+    // With one mark more: a bracket, a backslash, or the backticks of a run together.
+    fn with_mark(self, b: u8) -> Counted
+        requires ends_bound { self.most.ends + 1 < 2 ^ 64 }
+        requires held_bound { self.most.held + 1 < 2 ^ 64 }
+        ensures { result ≡ with_mark self b }
+    {
+        Counted {
+            opened: b == 91,
+            most: Most {
+                ends: self.most.ends + usize::from(ends_mark(b)),
+                held: self.most.held + usize::from(self.opened & (b != 93)),
+            },
+        }
     }
 }
 
@@ -67,24 +59,24 @@ pub fn most_of(p: &[u8]) -> Most
 {
     let mut i = 0;
     let mut m = Counted {
-        last: 0,
-        ends: 0,
-        held: 0,
+        opened: false,
+        most: Most { ends: 0, held: 0 },
     };
+    // No range: the place leaps over runs of backticks and over plain bytes.
     while i < p.len() {
         let b = p[i];
         if is_bracket(b) {
-            m = with_mark(m, b);
+            m = m.with_mark(b);
             i += 1;
         } else if b == 96 {
-            m = with_mark(m, 96);
+            m = m.with_mark(96);
             i = ticks::backticks_end(p, i + 1);
         } else {
             i = inline::plain_end(p, i + 1);
         }
     }
     Most {
-        ends: m.ends,
-        held: plus_one_if(m.held, m.last == 91),
+        held: m.most.held + usize::from(m.opened),
+        ..m.most
     }
 }

@@ -10,9 +10,9 @@ use Rattle.texts.specs.Texts.{Texts, text_of}
 use Rattle.texts.specs.Answers.{Due1, Due2}
 use Rattle.texts.proofs.Refusals.{bad_place}
 use Rattle.note.specs.Note.{FirstDeep}
-use Rattle.notice.specs.declared.Reading.{Reading}
-use Rattle.notice.specs.declared.Reading.TheVariants.{Read, Long, Bad, FewDefinitions, Conflicting, Deep, FewSpans}
-use Rattle.notice.specs.Answers.{number_of, value_of, named_of, definition_count, span_count, DefinitionsCounted, SpansCounted, ConflictRow, Due0, Due3, Due4, Due5, Due9, Answers, long, bad, few_definitions, conflicting, deep, few_spans, read}
+use Rattle.std.specs.Prelude.{Ok, Err}
+use Rattle.notice.specs.declared.Refusal.TheVariants.{Long, Bad, FewDefinitions, Conflicting, Deep, FewSpans}
+use Rattle.notice.specs.Answers.{Reading, counts, number_of, value_of, named_of, definition_count, span_count, DefinitionsCounted, SpansCounted, ConflictRow, Due0, Due3, Due4, Due5, Due9, Answers, long, bad, few_definitions, conflicting, deep, few_spans, read}
 use Rattle.notice.specs.Reading.{reading_of}
 use Rattle.notice.specs.Claims.{Demand1}
 use Rattle.notice.proofs.Answers.{first_conflict_lem, first_too_deep, the_answer, answers_iff}
@@ -82,39 +82,39 @@ module _ (release : Bool) (T : Texts) (d n : ℕ) where
       }
 
   line_1 : (x : ℕ) → Due1 T x → Line 1 x (λ v. v ≡ length (text_of T x))
-  line_1 x w = record { answer = Long x (length (text_of T x)); by_law = long w; number_is = refl; named_is = refl; value_is = refl }
+  line_1 x w = record { answer = Err (Long x (length (text_of T x))); by_law = long w; number_is = refl; named_is = refl; value_is = refl }
 
   line_2 : (x : ℕ) → Due2 T x → Line 2 x (FirstBad (text_of T x))
-  line_2 x w = let (k, f) = bad_place T w in record { answer = Bad x k; by_law = bad w f; number_is = refl; named_is = refl; value_is = f }
+  line_2 x w = let (k, f) = bad_place T w in record { answer = Err (Bad x k); by_law = bad w f; number_is = refl; named_is = refl; value_is = f }
 
   line_3 : Due3 release T d n → Line 3 0 (DefinitionsCounted T)
-  line_3 w = record { answer = FewDefinitions w.1.needed; by_law = few_definitions w; number_is = refl; named_is = refl; value_is = w.1.counted }
+  line_3 w = record { answer = Err (FewDefinitions w.1.needed); by_law = few_definitions w; number_is = refl; named_is = refl; value_is = w.1.counted }
 
   line_9 : Due9 release T d n → Line 9 0 (ConflictRow T)
   line_9 w =
       let (row, c) = first_conflict_lem T w.2 in
-      record { answer = Conflicting row; by_law = conflicting w c; number_is = refl; named_is = refl; value_is = c }
+      record { answer = Err (Conflicting row); by_law = conflicting w c; number_is = refl; named_is = refl; value_is = c }
 
   line_4 : Due4 release T d n → Line 4 0 (FirstDeep T)
   line_4 w =
       let (place, f) = first_too_deep T w.3 in
-      record { answer = Deep place; by_law = deep w f; number_is = refl; named_is = refl; value_is = f }
+      record { answer = Err (Deep place); by_law = deep w f; number_is = refl; named_is = refl; value_is = f }
 
   line_5 : Due5 release T d n → Line 5 0 (SpansCounted T)
-  line_5 w = record { answer = FewSpans w.4.needed; by_law = few_spans w; number_is = refl; named_is = refl; value_is = w.4.counted }
+  line_5 w = record { answer = Err (FewSpans w.4.needed); by_law = few_spans w; number_is = refl; named_is = refl; value_is = w.4.counted }
 
   success : Due0 release T d n → Line 0 0 (λ v. v ≡ 0)
-  success w = record { answer = Read w.1.needed w.4.needed; by_law = read w; number_is = refl; named_is = refl; value_is = refl }
+  success w = record { answer = Ok (counts w.1.needed w.4.needed); by_law = read w; number_is = refl; named_is = refl; value_is = refl }
 
   -- ---- the counts
-  counts : {x : Reading} → Law x → number_of x ≡ 0 → DefinitionsCounted T (definition_count x) × SpansCounted T (span_count x)
-  counts (long w) e = absurd (omega arith)
-  counts (bad w f) e = absurd (omega arith)
-  counts (few_definitions w) e = absurd (omega arith)
-  counts (conflicting w c) e = absurd (omega arith)
-  counts (deep w f) e = absurd (omega arith)
-  counts (few_spans w) e = absurd (omega arith)
-  counts (read w) e = (w.1.counted, w.4.counted)
+  counted : {x : Reading} → Law x → number_of x ≡ 0 → DefinitionsCounted T (definition_count x) × SpansCounted T (span_count x)
+  counted (long w) e = absurd (omega arith)
+  counted (bad w f) e = absurd (omega arith)
+  counted (few_definitions w) e = absurd (omega arith)
+  counted (conflicting w c) e = absurd (omega arith)
+  counted (deep w f) e = absurd (omega arith)
+  counted (few_spans w) e = absurd (omega arith)
+  counted (read w) e = (w.1.counted, w.4.counted)
 
   neither : {r : Reading} → Law r → (number_of r ≡ 1 → ⊥) → (number_of r ≡ 2 → ⊥) → named_of r ≡ 0
   neither (long w) a b = absurd (a refl)
@@ -135,8 +135,8 @@ module _ (release : Bool) (T : Texts) (d n : ℕ) where
         line_5 = given 5 (λ w. w) line_5;
         line_9 = given 9 (λ w. w) line_9;
         success = given 0 (λ w. w) success;
-        definitions_counted = λ e. (counts (the_answer release T d n) e).0;
-        spans_counted = λ e. (counts (the_answer release T d n) e).1;
+        definitions_counted = λ e. (counted (the_answer release T d n) e).0;
+        spans_counted = λ e. (counted (the_answer release T d n) e).1;
         names_neither = neither (the_answer release T d n);
         answers = answers_iff release T d n;
       }

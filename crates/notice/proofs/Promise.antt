@@ -6,8 +6,7 @@ use mathlib.Core.Bool.{Bool}
 use Rattle.texts.specs.Texts.{Texts}
 use Rattle.row.specs.Row as definition_table
 use Rattle.span.specs.Row as span_table
-use Rattle.notice.specs.declared.Reading.{Reading}
-use Rattle.notice.specs.Answers.{number_of, value_of, named_of, definition_count, span_count, Answers}
+use Rattle.notice.specs.Answers.{Reading, number_of, value_of, named_of, definition_count, span_count, Answers}
 use Rattle.notice.specs.Reading.{definition_table_of, span_table_of}
 use Rattle.notice.specs.Promise.{Promise}
 use Rattle.notice.specs.Claims.{Demand1, Tables, Same}

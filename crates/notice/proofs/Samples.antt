@@ -7,7 +7,6 @@ use mathlib.Core.Bool.{false}
 use lib.ListN.{length}
 use Rattle.scan.specs.Ascii.{ascii}
 use Rattle.line.specs.Line.{feeds, line_of}
-use Rattle.texts.specs.declared.Checked.TheVariants.{Good}
 use Rattle.texts.specs.Texts.{Texts}
 use Rattle.texts.specs.Reading.{check_of}
 use Rattle.block.specs.Block.{Placed}
@@ -22,14 +21,14 @@ use Rattle.note.specs.Reading.{labels, span_rows, place_or, deep_in, first_deep}
 use Rattle.note.specs.Samples.{brackets, openings, alone, parts_of, holds}
 use Rattle.note.proofs.Openings.{deep_openings}
 use Rattle.note.proofs.Samples as note
-use Rattle.notice.specs.declared.Reading.{Reading}
-use Rattle.notice.specs.declared.Reading.TheVariants.{Read, Deep}
-use Rattle.notice.specs.Answers.{number_of}
+use Rattle.std.specs.Prelude.{Ok, Err}
+use Rattle.notice.specs.declared.Refusal.TheVariants.{Deep}
+use Rattle.notice.specs.Answers.{Reading, counts, number_of}
 use Rattle.paragraphs.specs.Spans.{spans_filled}
 use Rattle.notice.specs.Reading.{with_definitions, reading_of, definition_table_of, span_table_of}
 use Rattle.notice.specs.Samples.{beside, sample, lent, read_one, deep, edges, Hold, samples_hold}
 
-answer_by : (T : Texts) (a b d n : ℕ) (f : Option ℕ) → check_of T ≡ Good → length (joined T) ≡ d → first_deep T ≡ f → length (span_rows T) ≡ n
+answer_by : (T : Texts) (a b d n : ℕ) (f : Option ℕ) → check_of T ≡ Ok tt → length (joined T) ≡ d → first_deep T ≡ f → length (span_rows T) ≡ n
     → reading_of false T a b ≡ with_definitions false (first_conflict T) d f n a b
 unfolding reading_of
 answer_by T a b d n f good ed ef en = rw (good, ed, ef, en)
@@ -65,25 +64,25 @@ pub edges_hold : Hold edges
 unfolding feeds line_of rows filled
 edges_hold = rw (full, over, first)
   where
-    full : read_one (sample (brackets 1024) [] [] (Read 0 0) [] []) ≡ sample (brackets 1024) [] [] (Read 0 0) [] []
+    full : read_one (sample (brackets 1024) [] [] (Ok (counts 0 0)) [] []) ≡ sample (brackets 1024) [] [] (Ok (counts 0 0)) [] []
     full =
         let s = brackets 1024 in
-        sample_by (alone s) [] [] [] [] (Read 0 0)
+        sample_by (alone s) [] [] [] [] (Ok (counts 0 0))
         (answer_by (alone s) 0 0 0 0 none samples_hold.good_1024 (count_by s holds.parts_1024) (note.edges).shallow (ap length (note.edges).no_span))
         (table_by s holds.parts_1024 []) no_rows
 
-    over : read_one (sample (brackets 1025) [] [] (Deep 1024) [] []) ≡ sample (brackets 1025) [] [] (Deep 1024) [] []
+    over : read_one (sample (brackets 1025) [] [] (Err (Deep 1024)) [] []) ≡ sample (brackets 1025) [] [] (Err (Deep 1024)) [] []
     over =
         let s = brackets 1025 in
-        sample_by (alone s) [] [] [] [] (Deep 1024)
+        sample_by (alone s) [] [] [] [] (Err (Deep 1024))
         (answer_by (alone s) 0 0 0 _ (some 1024) samples_hold.good_1025 (count_by s holds.parts_1025) (note.edges).deep refl)
         (table_by s holds.parts_1025 []) refl
 
     row : List ℕ
     row = 0 ∷ 1 ∷ 2 ∷ 5 ∷ 6 ∷ 0 ∷ 0 ∷ 1 ∷ []
 
-    first : read_one (sample deep (lent 8) [] (Deep 1037) row []) ≡ sample deep (lent 8) [] (Deep 1037) row []
+    first : read_one (sample deep (lent 8) [] (Err (Deep 1037)) row []) ≡ sample deep (lent 8) [] (Err (Deep 1037)) row []
     first =
-        sample_by (alone deep) (lent 8) [] row [] (Deep 1037)
+        sample_by (alone deep) (lent 8) [] row [] (Err (Deep 1037))
         (answer_by (alone deep) 1 0 1 _ (some 1037) samples_hold.good_deep (count_by deep samples_hold.deep_parts) deep_first refl)
         (table_by deep samples_hold.deep_parts (lent 8)) refl

@@ -22,8 +22,7 @@ use Rattle.note.specs.Reading.{span_rows}
 use Rattle.note.proofs.EachRow.{each_row_iff}
 use Rattle.note.proofs.Fits as fitting
 use Rattle.note.proofs.References.{references_refer}
-use Rattle.notice.specs.declared.Reading.{Reading}
-use Rattle.notice.specs.Answers.{number_of, DefinitionsCounted, SpansCounted, Enough, Answers, long, bad, few_definitions, conflicting, deep, few_spans, read}
+use Rattle.notice.specs.Answers.{Reading, number_of, DefinitionsCounted, SpansCounted, Enough, Answers, long, bad, few_definitions, conflicting, deep, few_spans, read}
 use Rattle.paragraphs.specs.Spans.{span_numbers, spans_filled}
 use Rattle.notice.specs.Reading.{definition_table_of, span_table_of}
 use Rattle.notice.specs.Claims.{DefinitionRows, SpanRows, Tables}

@@ -1,6 +1,6 @@
 -- Which answer the reader gives to a note and the sheet beside it, for a release or not, where so many whole definition rows and span rows are lent. Document 01,
 -- "Refusal numbers", and document 02, requests 1 and 8.
-use Rattle.std.specs.Prelude.{ℕ, ◌≤◌, ◌<◌, ◌≡◌, List, Bool, true, length}
+use Rattle.std.specs.Prelude.{ℕ, ◌≤◌, ◌<◌, ◌≡◌, List, Bool, true, length, Result, Ok, Err}
 use Rattle.std.proofs.Math.Option.{some}
 use Rattle.std.proofs.Math.ListN.{get_elem?}
 use Rattle.text.specs.Utf8.{FirstBad}
@@ -14,58 +14,66 @@ use Rattle.joined.specs.Joined.{JoinedIs}
 use Rattle.conflict.specs.Conflict.{Conflict, NoConflict, FirstConflict}
 use Rattle.inline.specs.Tails.{Tail}
 use Rattle.note.specs.Note.{depth_limit, Marked, EachRowOnce, FirstDeep, NeverDeep}
-use Rattle.notice.specs.declared.Reading.{Reading}
-use Rattle.notice.specs.declared.Reading.TheVariants.{Read, Long, Bad, FewDefinitions, Conflicting, Deep, FewSpans}
+use Rattle.notice.specs.declared.Counts.{Counts}
+use Rattle.notice.specs.declared.Refusal.{Refusal}
+use Rattle.notice.specs.declared.Refusal.TheVariants.{Long, Bad, FewDefinitions, Conflicting, Deep, FewSpans}
 
 -- ---- document 01's numbers of an answer
--- "Success is number 0", and the refusals of the reader
+-- the counts of definitions and spans, or a refusal
+abbrev pub Reading : Type 0
+Reading = Result Counts Refusal
+
+abbrev pub counts : ℕ → ℕ → Counts
+counts d n = record { definitions = d; spans = n }
+
+-- the refusals of the reader
+abbrev pub refusal_number : Refusal → ℕ
+refusal_number (Long x n) = 1
+refusal_number (Bad x k) = 2
+refusal_number (FewDefinitions n) = 3
+refusal_number (Conflicting n) = 9
+refusal_number (Deep k) = 4
+refusal_number (FewSpans n) = 5
+
+-- "Success is number 0"
 abbrev pub number_of : Reading → ℕ
-number_of (Read d n) = 0
-number_of (Long x n) = 1
-number_of (Bad x k) = 2
-number_of (FewDefinitions n) = 3
-number_of (Conflicting n) = 9
-number_of (Deep k) = 4
-number_of (FewSpans n) = 5
+number_of (Ok c) = 0
+number_of (Err r) = refusal_number r
 
 -- "Returned with it"
+abbrev pub refusal_value : Refusal → ℕ
+refusal_value (Long x n) = n
+refusal_value (Bad x k) = k
+refusal_value (FewDefinitions n) = n
+refusal_value (Conflicting n) = n
+refusal_value (Deep k) = k
+refusal_value (FewSpans n) = n
+
 abbrev pub value_of : Reading → ℕ
-value_of (Read d n) = 0
-value_of (Long x n) = n
-value_of (Bad x k) = k
-value_of (FewDefinitions n) = n
-value_of (Conflicting n) = n
-value_of (Deep k) = k
-value_of (FewSpans n) = n
+value_of (Ok c) = 0
+value_of (Err r) = refusal_value r
 
 -- "with the counts of definitions and spans"
 abbrev pub definition_count : Reading → ℕ
-definition_count (Read d n) = d
-definition_count (Long x n) = 0
-definition_count (Bad x k) = 0
-definition_count (FewDefinitions n) = 0
-definition_count (Conflicting n) = 0
-definition_count (Deep k) = 0
-definition_count (FewSpans n) = 0
+definition_count (Ok c) = c.definitions
+definition_count (Err r) = 0
 
 abbrev pub span_count : Reading → ℕ
-span_count (Read d n) = n
-span_count (Long x n) = 0
-span_count (Bad x k) = 0
-span_count (FewDefinitions n) = 0
-span_count (Conflicting n) = 0
-span_count (Deep k) = 0
-span_count (FewSpans n) = 0
+span_count (Ok c) = c.spans
+span_count (Err r) = 0
 
 -- "say which text, 0 the note, 1 the sheet; an answer about neither says 0"
+abbrev pub refusal_text : Refusal → ℕ
+refusal_text (Long x n) = x
+refusal_text (Bad x k) = x
+refusal_text (FewDefinitions n) = 0
+refusal_text (Conflicting n) = 0
+refusal_text (Deep k) = 0
+refusal_text (FewSpans n) = 0
+
 abbrev pub named_of : Reading → ℕ
-named_of (Read d n) = 0
-named_of (Long x n) = x
-named_of (Bad x k) = x
-named_of (FewDefinitions n) = 0
-named_of (Conflicting n) = 0
-named_of (Deep k) = 0
-named_of (FewSpans n) = 0
+named_of (Ok c) = 0
+named_of (Err r) = refusal_text r
 
 -- ---- what is counted
 -- the texts have so many definitions, "repeats too": "Refusal 3 counts both."
@@ -147,16 +155,16 @@ module _ (release : Bool) (T : Texts) (definition_rows rows_of_spans : ℕ) wher
   -- the answer, with what is "Returned with it"
   pub data Answers : Reading → Type 0 where
     -- "its length"
-    long : {x : ℕ} → Due1 T x → Answers (Long x (length (text_of T x)))
+    long : {x : ℕ} → Due1 T x → Answers (Err (Long x (length (text_of T x))))
     -- "where reading from the start first meets no good character"
-    bad : {x place : ℕ} → Due2 T x → FirstBad (text_of T x) place → Answers (Bad x place)
+    bad : {x place : ℕ} → Due2 T x → FirstBad (text_of T x) place → Answers (Err (Bad x place))
     -- "rows needed"
-    few_definitions : (due : Due3) → Answers (FewDefinitions due.1.needed)
+    few_definitions : (due : Due3) → Answers (Err (FewDefinitions due.1.needed))
     -- "the row number, from 1"
-    conflicting : {row : ℕ} → Due9 → ConflictRow T row → Answers (Conflicting row)
+    conflicting : {row : ℕ} → Due9 → ConflictRow T row → Answers (Err (Conflicting row))
     -- "place of the first bracket too many"
-    deep : {place : ℕ} → Due4 → FirstDeep T place → Answers (Deep place)
+    deep : {place : ℕ} → Due4 → FirstDeep T place → Answers (Err (Deep place))
     -- "rows needed"
-    few_spans : (due : Due5) → Answers (FewSpans due.4.needed)
+    few_spans : (due : Due5) → Answers (Err (FewSpans due.4.needed))
     -- "with the counts of definitions and spans"
-    read : (due : Due0) → Answers (Read due.1.needed due.4.needed)
+    read : (due : Due0) → Answers (Ok (counts due.1.needed due.4.needed))

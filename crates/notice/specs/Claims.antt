@@ -13,8 +13,7 @@ use Rattle.span.specs.Row as span_table
 use Rattle.note.specs.Note.{EachRowOnce, FirstDeep}
 use Rattle.note.specs.Claims.{RefersTo}
 use Rattle.paragraphs.specs.Spans.{span_numbers}
-use Rattle.notice.specs.declared.Reading.{Reading}
-use Rattle.notice.specs.Answers.{number_of, value_of, named_of, definition_count, span_count, DefinitionsCounted, SpansCounted, ConflictRow, Due0, Due3, Due4, Due5, Due9, Answers}
+use Rattle.notice.specs.Answers.{Reading, number_of, value_of, named_of, definition_count, span_count, DefinitionsCounted, SpansCounted, ConflictRow, Due0, Due3, Due4, Due5, Due9, Answers}
 
 -- Demand 1 of the answer r to the texts T, for a release or not, where so many whole rows of each table are lent.
 pub record Demand1 (release : Bool) (T : Texts) (definition_rows rows_of_spans : ℕ) (r : Reading) : Type 0 where

@@ -3,8 +3,7 @@ use Rattle.std.specs.Prelude.{ℕ, ◌≡◌, List, Bool}
 use Rattle.texts.specs.Texts.{Texts}
 use Rattle.row.specs.Row as definition_table
 use Rattle.span.specs.Row as span_table
-use Rattle.notice.specs.declared.Reading.{Reading}
-use Rattle.notice.specs.Answers.{number_of, value_of, named_of, definition_count, span_count}
+use Rattle.notice.specs.Answers.{Reading, number_of, value_of, named_of, definition_count, span_count}
 use Rattle.notice.specs.Reading.{reading_of, definition_table_of, span_table_of}
 
 -- the answer, for a release or not, where the tables t and u are lent

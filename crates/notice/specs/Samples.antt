@@ -1,12 +1,11 @@
 -- The reader's answers by computation, with what both tables hold before and after: the whole example of document 01, each refusal, and their order, for a release or not.
-use Rattle.std.specs.Prelude.{ℕ, ◌≡◌, refl, List, [], ◌∷◌, ◌++◌, map, Bool, true, false, replicate}
+use Rattle.std.specs.Prelude.{ℕ, ◌≡◌, refl, List, [], ◌∷◌, ◌++◌, map, Bool, true, false, replicate, Ok, Err}
 use Rattle.std.proofs.Math.Option.{none}
 use Rattle.scan.specs.Ascii.{ascii}
 use Rattle.line.specs.Line.{feeds, line_of}
 use Rattle.scan.specs.Reading.{scan as scan_bytes, run, past, leap, closing_step, closing}
 use Rattle.text.specs.Utf8.{table}
 use Rattle.text.specs.Sequences.{ones_from, leading_ones, sequence_length, characters}
-use Rattle.texts.specs.declared.Checked.TheVariants.{Good}
 use Rattle.texts.specs.Texts.{Texts, texts}
 use Rattle.texts.specs.Reading as both
 use Rattle.text.specs.Reading.{row_for, starts, character_length, good_length, first_bad_past, first_bad, check_of}
@@ -30,9 +29,9 @@ use Rattle.joined.specs.Reading.{joined}
 use Rattle.conflict.specs.Reading.{differ, differs_from, conflict_from, first_conflict}
 use Rattle.note.specs.Samples.{brackets, openings, alone, parts_of}
 use Rattle.note.specs.Reading.{labels, rows_in, span_rows, deep_in, first_deep}
-use Rattle.notice.specs.declared.Reading.{Reading}
-use Rattle.notice.specs.declared.Reading.TheVariants.{Read, Long, Bad, FewDefinitions, Conflicting, Deep, FewSpans}
-use Rattle.notice.specs.Answers.{number_of}
+use Rattle.notice.specs.declared.Refusal.{Refusal}
+use Rattle.notice.specs.declared.Refusal.TheVariants.{Long, Bad, FewDefinitions, Conflicting, Deep, FewSpans}
+use Rattle.notice.specs.Answers.{Reading, counts, number_of}
 use Rattle.notice.specs.Reading.{reading_of, definition_table_of, span_table_of}
 
 pub record Sample : Type 0 where
@@ -98,52 +97,52 @@ deep = ascii "[a]: b\n\n`c`\n\n" ++ brackets 1025
 abbrev pub samples : List Sample
 samples =
     -- exactly the rows needed; then part of a row more, and rows more
-    sample whole_example (lent 8) (lent 11) (Read 1 1) definition_row span_row
-    ∷ sample whole_example (lent 15) (lent 21) (Read 1 1) (definition_row ++ lent 7) (span_row ++ lent 10)
-    ∷ sample whole_example (lent 16) (lent 22) (Read 1 1) (definition_row ++ lent 8) (span_row ++ lent 11)
-    ∷ unchanged [] [] [] (Read 0 0)
+    sample whole_example (lent 8) (lent 11) (Ok (counts 1 1)) definition_row span_row
+    ∷ sample whole_example (lent 15) (lent 21) (Ok (counts 1 1)) (definition_row ++ lent 7) (span_row ++ lent 10)
+    ∷ sample whole_example (lent 16) (lent 22) (Ok (counts 1 1)) (definition_row ++ lent 8) (span_row ++ lent 11)
+    ∷ unchanged [] [] [] (Ok (counts 0 0))
     -- the rows needed, where fewer whole rows are lent
-    ∷ unchanged whole_example (lent 7) (lent 11) (FewDefinitions 1)
-    ∷ sample whole_example (lent 8) (lent 10) (FewSpans 1) definition_row (lent 10)
-    ∷ unchanged (ascii "[a]: b\n[a]: c") (lent 15) [] (FewDefinitions 2)
-    ∷ unchanged (ascii "`a` `b`") [] (lent 21) (FewSpans 2)
+    ∷ unchanged whole_example (lent 7) (lent 11) (Err (FewDefinitions 1))
+    ∷ sample whole_example (lent 8) (lent 10) (Err (FewSpans 1)) definition_row (lent 10)
+    ∷ unchanged (ascii "[a]: b\n[a]: c") (lent 15) [] (Err (FewDefinitions 2))
+    ∷ unchanged (ascii "`a` `b`") [] (lent 21) (Err (FewSpans 2))
     -- its length, whatever the bytes
-    ∷ unchanged (replicate 32769 0) [] [] (Long 0 32769)
+    ∷ unchanged (replicate 32769 0) [] [] (Err (Long 0 32769))
     -- bytes 0 and 13, and ill-formed UTF-8
-    ∷ unchanged (ascii "a" ++ 0 ∷ []) [] [] (Bad 0 1)
-    ∷ unchanged (ascii "ab" ++ 13 ∷ 10 ∷ []) [] [] (Bad 0 2)
-    ∷ unchanged (195 ∷ 169 ∷ 237 ∷ 160 ∷ 128 ∷ []) [] [] (Bad 0 2)
+    ∷ unchanged (ascii "a" ++ 0 ∷ []) [] [] (Err (Bad 0 1))
+    ∷ unchanged (ascii "ab" ++ 13 ∷ 10 ∷ []) [] [] (Err (Bad 0 2))
+    ∷ unchanged (195 ∷ 169 ∷ 237 ∷ 160 ∷ 128 ∷ []) [] [] (Err (Bad 0 2))
     -- "The first that applies, in order 1 to 6, is the answer"
-    ∷ unchanged (whole_example ++ 13 ∷ []) [] [] (Bad 0 34)
-    ∷ unchanged whole_example [] [] (FewDefinitions 1)
-    ∷ unchanged deep (lent 7) [] (FewDefinitions 1)
+    ∷ unchanged (whole_example ++ 13 ∷ []) [] [] (Err (Bad 0 34))
+    ∷ unchanged whole_example [] [] (Err (FewDefinitions 1))
+    ∷ unchanged deep (lent 7) [] (Err (FewDefinitions 1))
     -- with a sheet: its definition, and places in it
-    ∷ beside (texts (ascii "Use [max].") (ascii "[max]: /q2")) (lent 8) (lent 11) (Read 1 1) (1 ∷ 1 ∷ 4 ∷ 7 ∷ 10 ∷ 0 ∷ 0 ∷ 1 ∷ []) (5 ∷ 4 ∷ 9 ∷ 5 ∷ 8 ∷ 1 ∷ 7 ∷ 10 ∷ 0 ∷ 0 ∷ 1 ∷ [])
+    ∷ beside (texts (ascii "Use [max].") (ascii "[max]: /q2")) (lent 8) (lent 11) (Ok (counts 1 1)) (1 ∷ 1 ∷ 4 ∷ 7 ∷ 10 ∷ 0 ∷ 0 ∷ 1 ∷ []) (5 ∷ 4 ∷ 9 ∷ 5 ∷ 8 ∷ 1 ∷ 7 ∷ 10 ∷ 0 ∷ 0 ∷ 1 ∷ [])
     -- "Refusal 3 counts both."
-    ∷ unchanged_beside (ascii "[a]: c") (ascii "[a]: b") (lent 15) [] (FewDefinitions 2)
+    ∷ unchanged_beside (ascii "[a]: c") (ascii "[a]: b") (lent 15) [] (Err (FewDefinitions 2))
     -- "refusals 1 and 2 are checked on the note, then both on the sheet, and say which text"
-    ∷ unchanged_beside (ascii "a" ++ 0 ∷ []) (ascii "b") [] [] (Bad 1 1)
-    ∷ unchanged_beside (replicate 32769 97) (ascii "b") [] [] (Long 1 32769)
-    ∷ unchanged_beside (replicate 32769 97) (ascii "bc" ++ 13 ∷ []) [] [] (Bad 0 2)
+    ∷ unchanged_beside (ascii "a" ++ 0 ∷ []) (ascii "b") [] [] (Err (Bad 1 1))
+    ∷ unchanged_beside (replicate 32769 97) (ascii "b") [] [] (Err (Long 1 32769))
+    ∷ unchanged_beside (replicate 32769 97) (ascii "bc" ++ 13 ∷ []) [] [] (Err (Bad 0 2))
     -- its paragraphs are ignored, and so are the brackets that are open in it
-    ∷ unchanged_beside (ascii "`a`\n\n" ++ brackets 1025) (ascii "b") [] [] (Read 0 0)
+    ∷ unchanged_beside (ascii "`a`\n\n" ++ brackets 1025) (ascii "b") [] [] (Ok (counts 0 0))
     -- "With yes, refusal 9", "the row number, from 1": P12, and one label in each text; "With no, all old answers hold."
-    ∷ released (alone (ascii "[foo]\n\n[foo]: first\n[foo]: second")) (lent 16) (lent 11) (Conflicting 2) (0 ∷ 8 ∷ 11 ∷ 14 ∷ 19 ∷ 0 ∷ 0 ∷ 3 ∷ 0 ∷ 21 ∷ 24 ∷ 27 ∷ 33 ∷ 0 ∷ 0 ∷ 4 ∷ [])
-    ∷ released conflicting (lent 17) (lent 11) (Conflicting 2) (conflicting_rows ++ lent 1)
-    ∷ beside conflicting (lent 16) (lent 11) (Read 2 1) conflicting_rows (5 ∷ 9 ∷ 12 ∷ 10 ∷ 11 ∷ 1 ∷ 5 ∷ 7 ∷ 0 ∷ 0 ∷ 3 ∷ [])
+    ∷ released (alone (ascii "[foo]\n\n[foo]: first\n[foo]: second")) (lent 16) (lent 11) (Err (Conflicting 2)) (0 ∷ 8 ∷ 11 ∷ 14 ∷ 19 ∷ 0 ∷ 0 ∷ 3 ∷ 0 ∷ 21 ∷ 24 ∷ 27 ∷ 33 ∷ 0 ∷ 0 ∷ 4 ∷ [])
+    ∷ released conflicting (lent 17) (lent 11) (Err (Conflicting 2)) (conflicting_rows ++ lent 1)
+    ∷ beside conflicting (lent 16) (lent 11) (Ok (counts 2 1)) conflicting_rows (5 ∷ 9 ∷ 12 ∷ 10 ∷ 11 ∷ 1 ∷ 5 ∷ 7 ∷ 0 ∷ 0 ∷ 3 ∷ [])
     -- "Checked after 3", and before 5
-    ∷ released conflicting (lent 15) (lent 11) (FewDefinitions 2) (lent 15)
-    ∷ released conflicting (lent 16) [] (Conflicting 2) conflicting_rows
+    ∷ released conflicting (lent 15) (lent 11) (Err (FewDefinitions 2)) (lent 15)
+    ∷ released conflicting (lent 16) [] (Err (Conflicting 2)) conflicting_rows
     -- "Identical repeats still pass."
-    ∷ released (texts (ascii "[a]: /1") (ascii "[A]: </1>")) (lent 16) (lent 2) (Read 2 0) (0 ∷ 1 ∷ 2 ∷ 5 ∷ 7 ∷ 0 ∷ 0 ∷ 1 ∷ 1 ∷ 1 ∷ 2 ∷ 6 ∷ 8 ∷ 0 ∷ 0 ∷ 1 ∷ [])
+    ∷ released (texts (ascii "[a]: /1") (ascii "[A]: </1>")) (lent 16) (lent 2) (Ok (counts 2 0)) (0 ∷ 1 ∷ 2 ∷ 5 ∷ 7 ∷ 0 ∷ 0 ∷ 1 ∷ 1 ∷ 1 ∷ 2 ∷ 6 ∷ 8 ∷ 0 ∷ 0 ∷ 1 ∷ [])
     ∷ []
 
 -- as many brackets open as may be, and one more; and the latter before too few span rows
 abbrev pub edges : List Sample
 edges =
-    unchanged (brackets 1024) [] [] (Read 0 0)
-    ∷ unchanged (brackets 1025) [] [] (Deep 1024)
-    ∷ sample deep (lent 8) [] (Deep 1037) (0 ∷ 1 ∷ 2 ∷ 5 ∷ 6 ∷ 0 ∷ 0 ∷ 1 ∷ []) []
+    unchanged (brackets 1024) [] [] (Ok (counts 0 0))
+    ∷ unchanged (brackets 1025) [] [] (Err (Deep 1024))
+    ∷ sample deep (lent 8) [] (Err (Deep 1037)) (0 ∷ 1 ∷ 2 ∷ 5 ∷ 6 ∷ 0 ∷ 0 ∷ 1 ∷ []) []
     ∷ []
 
 -- the same texts and tables lent, as they are answered
@@ -161,9 +160,9 @@ Hold xs = map read_one xs ≡ xs
 -- what is computed; `Hold edges` follows, since what is read of opening brackets alone is known
 pub record Computed : Type 0 where
   pub answers : Hold samples
-  pub good_1024 : both.check_of (alone (brackets 1024)) ≡ Good
-  pub good_1025 : both.check_of (alone (brackets 1025)) ≡ Good
-  pub good_deep : both.check_of (alone deep) ≡ Good
+  pub good_1024 : both.check_of (alone (brackets 1024)) ≡ Ok tt
+  pub good_1025 : both.check_of (alone (brackets 1025)) ≡ Ok tt
+  pub good_deep : both.check_of (alone deep) ≡ Ok tt
   pub deep_parts : parts_of deep ≡ (listed 0 (definition (range 1 2) (range 5 6) absent) ∷ [], record { at = 8; bytes = ascii "`c`" } ∷ openings 13 1025 ∷ [])
   pub shallow_first : over depth_limit (grammar (ascii "`c`") (ascii "a" ∷ [])) ≡ none
 

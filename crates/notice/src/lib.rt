@@ -1,31 +1,36 @@
 // The reader of a notice, with a sheet of definitions beside it.
 #![tactic(auto)]
 
-pub mod answer;
-
-ghost use Rattle.std.specs.Prelude.{◌≡◌, ◌≤◌, ◌<◌, length};
+ghost use Rattle.std.specs.Prelude.{◌≡◌, ◌≤◌, ◌<◌, length, IfOk};
 ghost use Rattle.text.specs.Utf8.{note_limit};
-ghost use Rattle.texts.specs.Answers.{GoodTexts};
-ghost use Rattle.joined.specs.Reading.{joined};
-ghost use Rattle.row.specs.Row.{whole_rows as definition_rows};
-ghost use Rattle.span.specs.Row.{whole_rows};
 ghost use Rattle.texts.specs.Texts.{texts};
+ghost use Rattle.row.specs.Listing.{texts_of};
+ghost use Rattle.span.specs.Row.{whole_rows};
 ghost use Rattle.index.specs.Index.{Ready};
+ghost use Rattle.note.specs.Reading.{span_rows, first_deep};
 ghost use Rattle.walk.specs.Promise.{Remembers};
-ghost use Rattle.notice.specs.Answers.{number_of};
-ghost use Rattle.paragraph.specs.Promise.{Lent};
+ghost use Rattle.paragraphs.specs.Spans.{Defined};
+ghost use Rattle.notice.specs.Answers.{refusal_number, refusal_value, refusal_text};
+ghost use Rattle.notice.specs.declared.Refusal.TheVariants.{Deep as TooDeep};
+ghost use Rattle.notice.specs.Reading.{of_fault, with_spans};
 ghost use Rattle.notice.specs.Promise.{Promise};
-ghost use Rattle.paragraphs.specs.Spans.{Defined, Surely};
-ghost use Rattle.notice.specs.Spans.{SpansRead, JoinedRead};
+ghost use Rattle.notice.specs.Spans.{with_count, SpansRead, JoinedRead, reading_in};
 
-use paragraph::Tally;
-use scan::Found;
-use texts::Checked;
+use paragraph::{Deep, Lent};
+use row::Definitions;
+use texts::Fault;
+use walk::Paragraphs;
 
-// What the reader answers: the counts of definitions and spans, or a refusal with its value; 1 and 2 with the text that they are about before it.
+// The reader's answer on success: the counts of definitions and spans.
 #[derive(Clone, Copy)]
-pub enum Reading {
-    Read(usize, usize),
+pub struct Counts {
+    pub definitions: usize,
+    pub spans: usize,
+}
+
+// A refusal with its value; 1 and 2 with the text that they are about before it.
+#[derive(Clone, Copy)]
+pub enum Refusal {
     Long(usize, usize),
     Bad(usize, usize),
     FewDefinitions(usize),
@@ -34,25 +39,77 @@ pub enum Reading {
     FewSpans(usize),
 }
 
-// What the reader answers, and how many paragraphs it has listed.
-#[derive(Clone, Copy)]
-pub struct Listed {
-    pub reading: Reading,
-    pub paragraphs: usize,
+impl Refusal {
+    // Document 01's number of the refusal.
+    pub fn number(self) -> u32
+        ensures { result ≡ refusal_number self }
+    {
+        match self {
+            Refusal::Long(_, _) => 1,
+            Refusal::Bad(_, _) => 2,
+            Refusal::FewDefinitions(_) => 3,
+            Refusal::Conflicting(_) => 9,
+            Refusal::Deep(_) => 4,
+            Refusal::FewSpans(_) => 5,
+        }
+    }
+
+    // What is returned with it.
+    pub fn value(self) -> usize
+        ensures { result ≡ refusal_value self }
+    {
+        match self {
+            Refusal::Long(_, n)
+            | Refusal::Bad(_, n)
+            | Refusal::FewDefinitions(n)
+            | Refusal::Conflicting(n)
+            | Refusal::Deep(n)
+            | Refusal::FewSpans(n) => n,
+        }
+    }
+
+    // The text that it is about; 0 where it is about neither.
+    pub fn text(self) -> usize
+        ensures { result ≡ refusal_text self }
+    {
+        match self {
+            Refusal::Long(x, _) | Refusal::Bad(x, _) => x,
+            _ => 0,
+        }
+    }
 }
 
-// A refusal before the paragraphs are asked for.
-fn unlisted(reading: Reading) -> Listed
-    ensures { result.reading ≡ reading }
-{
-    Listed {
-        reading,
-        paragraphs: 0,
+impl From<Fault> for Refusal {
+    ghost from_gives = { λ fault refusal. refusal ≡ of_fault fault };
+
+    fn from(fault: Fault) -> Refusal {
+        match fault {
+            Fault::Long(x, n) => Refusal::Long(x, n),
+            Fault::Bad(x, k) => Refusal::Bad(x, k),
+        }
     }
+}
+
+impl From<Deep> for Refusal {
+    ghost from_gives = { λ deep refusal. refusal ≡ TooDeep deep.place };
+
+    fn from(deep: Deep) -> Refusal {
+        Refusal::Deep(deep.place)
+    }
+}
+
+// The reader's answer on success, and how many paragraphs it has listed.
+#[derive(Clone, Copy)]
+pub struct Listed {
+    pub counts: Counts,
+    pub paragraphs: usize,
 }
 
 // A note of at most so many bytes is short: less memory is made ready for it.
 const SHORT: usize = 4096;
+
+// The numbers of the list of a short note's paragraphs.
+const SHORT_LIST: usize = SHORT + 1;
 
 // A mark for each byte of the longest note, and one more; and for a short one.
 const MARKS: usize = text::NOTE_LIMIT + 1;
@@ -64,267 +121,129 @@ const FEW: usize = 16;
 
 const MANY: usize = 256;
 
-// The answer where all rows surely fit: they are stored in the pass that finds them.
-fn store_spans<'a>(
-    note: &'a [u8],
-    sheet: &'a [u8],
-    table: &[u32],
-    count: usize,
+// The numbers of an index for up to so many definitions, and of the largest.
+const MANY_INDEX: usize = buckets::BASE + MANY;
+
+const INDEX: usize = buckets::BASE + indexing::ROWS;
+
+// Counts the spans, and refuses where there are more than `rows`.
+fn count_spans<'a, const N: usize>(
+    definitions: &Definitions<'a>,
+    paragraphs: &Paragraphs<'a>,
     index: &mut [u32],
-    list: &[u16],
-    paragraphs: usize,
-    spans: &mut [u32],
-    stack: &mut [u32],
-    runs: &mut [u32; ticks::LENGTHS],
-    marks: &mut [u8],
-) -> Reading
-    requires defined { Defined (texts note.now sheet.now) table.now count }
-    requires ready { Ready (texts note.now sheet.now) table.now count index.old }
-    requires remembers { Remembers note.now list.now paragraphs }
-    requires lent { Lent note.now stack.old marks.old }
-    requires surely { Surely note.now (whole_rows spans.old) }
-    ensures { SpansRead (texts note.now sheet.now) count spans.old result spans.new }
+    rows: usize,
+    lent: &mut Lent<N>,
+) -> Result<usize, Refusal>
+    requires same_note { paragraphs.now.note.now ≡ definitions.now.note.now }
+    requires defined { Defined (texts_of definitions.now) definitions.now.table.now definitions.now.count }
+    requires ready { Ready (texts_of definitions.now) definitions.now.table.now definitions.now.count index.old }
+    requires note_in_bounds { length definitions.now.note.now < N }
+    requires size { N ≤ 65536 }
+    ensures counted { with_count definitions.now.count result ≡ with_spans definitions.now.count (first_deep (texts_of definitions.now)) (length (span_rows (texts_of definitions.now))) rows }
+    ensures ready_2 { Ready (texts_of definitions.now) definitions.now.table.now definitions.now.count index.new }
 {
-    match paragraphs::note_spans(
-        note, sheet, table, count, index, list, paragraphs, spans, stack, runs, marks,
-    ) {
-        Tally::Deep(place) => Reading::Deep(place), // This can't be.
-        Tally::Spans(w) => Reading::Read(count, w.row),
+    let walk = paragraphs::note_spans(definitions, index, paragraphs, &mut [], lent)?;
+    if rows < walk.row {
+        return Err(Refusal::FewSpans(walk.row));
     }
+    Ok(walk.row)
 }
 
-// The answer otherwise: counts the spans, and then stores their rows or refuses.
-fn count_spans<'a>(
-    note: &'a [u8],
-    sheet: &'a [u8],
-    table: &[u32],
-    count: usize,
+// The answer after refusals 1 to 3 and 9, with a mark for each of N bytes. Where all rows surely fit, they are stored in the pass that finds them, and else
+// the spans are counted before.
+fn with_marks<'a, const N: usize>(
+    definitions: &Definitions<'a>,
+    paragraphs: &Paragraphs<'a>,
     index: &mut [u32],
-    list: &[u16],
-    paragraphs: usize,
     spans: &mut [u32],
-    stack: &mut [u32],
-    runs: &mut [u32; ticks::LENGTHS],
-    marks: &mut [u8],
-) -> Reading
-    requires defined { Defined (texts note.now sheet.now) table.now count }
-    requires ready { Ready (texts note.now sheet.now) table.now count index.old }
-    requires remembers { Remembers note.now list.now paragraphs }
-    requires lent { Lent note.now stack.old marks.old }
-    ensures { SpansRead (texts note.now sheet.now) count spans.old result spans.new }
+) -> Result<Counts, Refusal>
+    requires same_note { paragraphs.now.note.now ≡ definitions.now.note.now }
+    requires defined { Defined (texts_of definitions.now) definitions.now.table.now definitions.now.count }
+    requires ready { Ready (texts_of definitions.now) definitions.now.table.now definitions.now.count index.old }
+    requires note_in_bounds { length definitions.now.note.now < N }
+    requires size { N ≤ 65536 }
+    ensures { SpansRead (texts_of definitions.now) definitions.now.count spans.old result spans.new }
 {
-    let none = &mut spans[..0];
-    match paragraphs::note_spans(
-        note, sheet, table, count, index, list, paragraphs, none, stack, runs, marks,
-    ) {
-        Tally::Deep(place) => Reading::Deep(place),
-        Tally::Spans(w) => {
-            // Here too nothing is read again where there is no row to store.
-            if w.row == 0 {
-                return Reading::Read(count, 0);
-            }
-            if span::whole_rows(spans) < w.row {
-                return Reading::FewSpans(w.row);
-            }
-            paragraphs::note_spans(
-                note, sheet, table, count, index, list, paragraphs, spans, stack, runs, marks,
-            );
-            Reading::Read(count, w.row)
+    let mut lent = Lent::<N>::new();
+    let rows = span::whole_rows(spans);
+    if !paragraphs::surely_fits(paragraphs, rows) {
+        // Nothing is read again where there is no row to store.
+        if count_spans(definitions, paragraphs, index, rows, &mut lent)? == 0 {
+            return Ok(Counts {
+                definitions: definitions.count,
+                spans: 0,
+            });
         }
     }
+    let walk = paragraphs::note_spans(definitions, index, paragraphs, spans, &mut lent)?;
+    Ok(Counts {
+        definitions: definitions.count,
+        spans: walk.row,
+    })
 }
 
-// The answer after refusals 1 to 3 and 9, with what is lent to each paragraph, made once for a note.
-fn answer_spans<'a>(
-    note: &'a [u8],
-    sheet: &'a [u8],
-    table: &[u32],
-    count: usize,
-    index: &mut [u32],
-    list: &[u16],
-    paragraphs: usize,
-    spans: &mut [u32],
-    marks: &mut [u8],
-) -> Reading
-    requires defined { Defined (texts note.now sheet.now) table.now count }
-    requires ready { Ready (texts note.now sheet.now) table.now count index.old }
-    requires remembers { Remembers note.now list.now paragraphs }
-    requires note_in_bounds { length note.now < length marks.old }
-    ensures { SpansRead (texts note.now sheet.now) count spans.old result spans.new }
-{
-    let mut stack = [0; paragraph::STACK];
-    let mut runs = [0; ticks::LENGTHS];
-    let rows = span::whole_rows(spans);
-    if paragraphs::surely_fits(note, list, paragraphs, rows) {
-        return store_spans(
-            note, sheet, table, count, index, list, paragraphs, spans, &mut stack, &mut runs, marks,
-        );
-    }
-    count_spans(
-        note, sheet, table, count, index, list, paragraphs, spans, &mut stack, &mut runs, marks,
-    )
-}
-
-// The same with the marks.
+// The same with as many marks as the note asks for.
 fn read_spans<'a>(
-    note: &'a [u8],
-    sheet: &'a [u8],
-    table: &[u32],
-    count: usize,
+    definitions: &Definitions<'a>,
+    paragraphs: &Paragraphs<'a>,
     index: &mut [u32],
-    list: &[u16],
-    paragraphs: usize,
     spans: &mut [u32],
-) -> Reading
-    requires defined { Defined (texts note.now sheet.now) table.now count }
-    requires ready { Ready (texts note.now sheet.now) table.now count index.old }
-    requires remembers { Remembers note.now list.now paragraphs }
-    ensures { SpansRead (texts note.now sheet.now) count spans.old result spans.new }
+) -> Result<Counts, Refusal>
+    requires same_note { paragraphs.now.note.now ≡ definitions.now.note.now }
+    requires defined { Defined (texts_of definitions.now) definitions.now.table.now definitions.now.count }
+    requires ready { Ready (texts_of definitions.now) definitions.now.table.now definitions.now.count index.old }
+    ensures { SpansRead (texts_of definitions.now) definitions.now.count spans.old result spans.new }
 {
-    if note.len() <= SHORT {
-        let mut marks = [0u8; SHORT_MARKS];
-        return answer_spans(
-            note, sheet, table, count, index, list, paragraphs, spans, &mut marks,
-        );
+    if definitions.note.len() <= SHORT {
+        with_marks::<SHORT_MARKS>(definitions, paragraphs, index, spans)
+    } else {
+        with_marks::<MARKS>(definitions, paragraphs, index, spans)
     }
-    let mut marks = [0u8; MARKS];
-    answer_spans(
-        note, sheet, table, count, index, list, paragraphs, spans, &mut marks,
-    )
 }
 
-// The answer after refusals 1 to 3: for a release, a definition that differs from an earlier one of equal label is refused.
+// The answer after refusals 1 to 3, with an index of N numbers. It is empty: it is built when it pays. For a release, a definition that differs from an
+// earlier one of equal label is refused.
+fn with_index<'a, const N: usize>(
+    definitions: &Definitions<'a>,
+    paragraphs: &Paragraphs<'a>,
+    release: bool,
+    spans: &mut [u32],
+) -> Result<Counts, Refusal>
+    requires same_note { paragraphs.now.note.now ≡ definitions.now.note.now }
+    requires defined { Defined (texts_of definitions.now) definitions.now.table.now definitions.now.count }
+    requires size { N ≤ 65536 }
+    ensures { JoinedRead release (texts_of definitions.now) definitions.now.count spans.old result spans.new }
+{
+    let mut index = [0u32; N];
+    if release {
+        if let Some(k) = repeats::first_conflict(definitions, &mut index) {
+            return Err(Refusal::Conflicting(k + 1));
+        }
+    }
+    read_spans(definitions, paragraphs, &mut index, spans)
+}
+
+// The same with as large an index as the definitions ask for.
 fn read_joined<'a>(
-    note: &'a [u8],
-    sheet: &'a [u8],
+    definitions: &Definitions<'a>,
+    paragraphs: &Paragraphs<'a>,
     release: bool,
-    table: &[u32],
-    count: usize,
-    index: &mut [u32],
-    list: &[u16],
-    paragraphs: usize,
     spans: &mut [u32],
-) -> Reading
-    requires defined { Defined (texts note.now sheet.now) table.now count }
-    requires ready { Ready (texts note.now sheet.now) table.now count index.old }
-    requires remembers { Remembers note.now list.now paragraphs }
-    ensures { JoinedRead release (texts note.now sheet.now) count spans.old result spans.new }
+) -> Result<Counts, Refusal>
+    requires same_note { paragraphs.now.note.now ≡ definitions.now.note.now }
+    requires defined { Defined (texts_of definitions.now) definitions.now.table.now definitions.now.count }
+    ensures { JoinedRead release (texts_of definitions.now) definitions.now.count spans.old result spans.new }
 {
-    if !release {
-        return read_spans(note, sheet, table, count, index, list, paragraphs, spans);
-    }
-    match repeats::first_conflict(note, sheet, table, count, index) {
-        Found::At(k) => Reading::Conflicting(k + 1),
-        Found::Nothing => read_spans(note, sheet, table, count, index, list, paragraphs, spans),
+    if definitions.count <= FEW {
+        with_index::<1>(definitions, paragraphs, release, spans)
+    } else if definitions.count <= MANY {
+        with_index::<MANY_INDEX>(definitions, paragraphs, release, spans)
+    } else {
+        with_index::<INDEX>(definitions, paragraphs, release, spans)
     }
 }
 
-// The same with room for an index, as much as the definitions ask for. It is empty: it is built when it pays.
-fn read_indexed<'a>(
-    note: &'a [u8],
-    sheet: &'a [u8],
-    release: bool,
-    table: &[u32],
-    count: usize,
-    list: &[u16],
-    paragraphs: usize,
-    spans: &mut [u32],
-) -> Reading
-    requires defined { Defined (texts note.now sheet.now) table.now count }
-    requires remembers { Remembers note.now list.now paragraphs }
-    ensures { JoinedRead release (texts note.now sheet.now) count spans.old result spans.new }
-{
-    if count <= FEW {
-        let mut none = [0u32; 1];
-        return read_joined(
-            note, sheet, release, table, count, &mut none, list, paragraphs, spans,
-        );
-    }
-    if count <= MANY {
-        let mut index = [0u32; buckets::BASE + MANY];
-        return read_joined(
-            note, sheet, release, table, count, &mut index, list, paragraphs, spans,
-        );
-    }
-    let mut index = [0u32; buckets::BASE + indexing::ROWS];
-    read_joined(
-        note, sheet, release, table, count, &mut index, list, paragraphs, spans,
-    )
-}
-
-// The answer after refusals 1 and 2 where the rows lent are surely enough for the definitions: they are stored in the pass that finds them.
-fn store_definitions<'a>(
-    note: &'a [u8],
-    sheet: &'a [u8],
-    release: bool,
-    definitions: &mut [u32],
-    spans: &mut [u32],
-    list: &mut [u16],
-) -> Listed
-    requires good_texts { GoodTexts (texts note.now sheet.now) }
-    requires note_in_bounds { length note.now < length list.old }
-    requires sheet_len_bound { length (joined (texts note.now sheet.now)) ≤ definition_rows definitions.old }
-    ensures promise { Promise release (texts note.now sheet.now) definitions.old spans.old result.reading (texts note.exit.now sheet.exit.now) definitions.new spans.new }
-    ensures remembers { number_of result.reading ≡ 0 → Remembers note.now list.new result.paragraphs }
-{
-    let found = table::fill_joined(note, sheet, definitions, list);
-    let paragraphs = found.paragraphs;
-    let count = found.definitions;
-    let reading = read_indexed(
-        note,
-        sheet,
-        release,
-        definitions,
-        count,
-        list,
-        paragraphs,
-        spans,
-    );
-    Listed {
-        reading,
-        paragraphs,
-    }
-}
-
-// The answer after refusals 1 and 2 otherwise: counts the definitions, and then stores their rows or refuses.
-fn count_definitions<'a>(
-    note: &'a [u8],
-    sheet: &'a [u8],
-    release: bool,
-    definitions: &mut [u32],
-    spans: &mut [u32],
-    list: &mut [u16],
-) -> Listed
-    requires good_texts { GoodTexts (texts note.now sheet.now) }
-    requires note_in_bounds { length note.now < length list.old }
-    ensures promise { Promise release (texts note.now sheet.now) definitions.old spans.old result.reading (texts note.exit.now sheet.exit.now) definitions.new spans.new }
-    ensures remembers { number_of result.reading ≡ 0 → Remembers note.now list.new result.paragraphs }
-{
-    let found = table::fill_joined(note, sheet, &mut definitions[..0], list);
-    let count = found.definitions;
-    if row::whole_rows(definitions) < count {
-        return unlisted(Reading::FewDefinitions(count));
-    }
-    let stored = table::fill_joined(note, sheet, definitions, list);
-    let paragraphs = stored.paragraphs;
-    let reading = read_indexed(
-        note,
-        sheet,
-        release,
-        definitions,
-        count,
-        list,
-        paragraphs,
-        spans,
-    );
-    Listed {
-        reading,
-        paragraphs,
-    }
-}
-
-// Reads a note with the sheet beside it, for a release or not: fills the two tables that are lent, or refuses. The note's paragraphs are listed, where
-// both texts are good.
+// Reads a note with the sheet beside it, for a release or not: fills the two tables that are lent, or refuses. The note's paragraphs are listed.
 pub fn read_listed<'a>(
     note: &'a [u8],
     sheet: &'a [u8],
@@ -332,41 +251,68 @@ pub fn read_listed<'a>(
     definitions: &mut [u32],
     spans: &mut [u32],
     list: &mut [u16],
-) -> Listed
+) -> Result<Listed, Refusal>
     requires { length note.now ≤ note_limit → length note.now < length list.old }
-    ensures promise { Promise release (texts note.now sheet.now) definitions.old spans.old result.reading (texts note.exit.now sheet.exit.now) definitions.new spans.new }
-    ensures remembers { number_of result.reading ≡ 0 → Remembers note.now list.new result.paragraphs }
+    ensures promise { Promise release (texts note.now sheet.now) definitions.old spans.old (reading_in result) (texts note.exit.now sheet.exit.now) definitions.new spans.new }
+    ensures remembers { IfOk result (λ listed. Remembers note.now list.new listed.paragraphs) }
 {
-    match texts::check(note, sheet) {
-        Checked::Long(x, n) => {
-            return unlisted(Reading::Long(x, n));
+    texts::check(note, sheet)?;
+    // A definition takes three bytes at the least: its brackets and its colon. Where the rows are surely enough, they are stored in the pass that finds
+    // them, and else the definitions are counted before.
+    let rows = row::whole_rows(definitions);
+    if rows < (note.len() + sheet.len()) / 3 {
+        let needed = table::fill_joined(note, sheet, &mut [], list).definitions;
+        if rows < needed {
+            return Err(Refusal::FewDefinitions(needed));
         }
-        Checked::Bad(x, k) => {
-            return unlisted(Reading::Bad(x, k));
-        }
-        Checked::Good => {}
     }
-    // A definition takes three bytes at the least: its brackets and its colon.
-    if (note.len() + sheet.len()) / 3 <= row::whole_rows(definitions) {
-        return store_definitions(note, sheet, release, definitions, spans, list);
-    }
-    count_definitions(note, sheet, release, definitions, spans, list)
+    let filled = table::fill_joined(note, sheet, definitions, list);
+    let listed = Paragraphs {
+        note,
+        list,
+        count: filled.paragraphs,
+    };
+    let defined = Definitions {
+        note,
+        sheet,
+        table: definitions,
+        count: filled.definitions,
+    };
+    Ok(Listed {
+        counts: read_joined(&defined, &listed, release, spans)?,
+        paragraphs: filled.paragraphs,
+    })
 }
 
-// The same; the list is made here.
+// The same with a list of N numbers.
+fn with_list<'a, const N: usize>(
+    note: &'a [u8],
+    sheet: &'a [u8],
+    release: bool,
+    definitions: &mut [u32],
+    spans: &mut [u32],
+) -> Result<Counts, Refusal>
+    requires note_in_bounds { length note.now ≤ note_limit → length note.now < N }
+    requires size { N ≤ 65536 }
+    ensures { Promise release (texts note.now sheet.now) definitions.old spans.old result (texts note.exit.now sheet.exit.now) definitions.new spans.new }
+{
+    let mut list = [0u16; N];
+    Ok(read_listed(note, sheet, release, definitions, spans, &mut list)?.counts)
+}
+
+// The same with as long a list as the note asks for.
 pub fn read<'a>(
     note: &'a [u8],
     sheet: &'a [u8],
     release: bool,
     definitions: &mut [u32],
     spans: &mut [u32],
-) -> Reading
+) -> Result<Counts, Refusal>
     ensures { Promise release (texts note.now sheet.now) definitions.old spans.old result (texts note.exit.now sheet.exit.now) definitions.new spans.new }
 {
     if note.len() <= SHORT {
-        let mut list = [0u16; SHORT + 1];
-        return read_listed(note, sheet, release, definitions, spans, &mut list).reading;
+        with_list::<SHORT_LIST>(note, sheet, release, definitions, spans)
+    } else {
+        with_list::<{ walk::LIST }>(note, sheet, release, definitions, spans)
     }
-    let mut list = [0u16; walk::LIST];
-    read_listed(note, sheet, release, definitions, spans, &mut list).reading
 }

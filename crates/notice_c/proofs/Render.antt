@@ -7,51 +7,20 @@ use lib.ListN.{length, get_or}
 use Rattle.texts.specs.Texts.{Texts}
 use Rattle.row.specs.Row as definition_table
 use Rattle.span.specs.Row as span_table
-use Rattle.rendering.specs.declared.Rendering.{Rendering}
-use Rattle.rendering.specs.declared.Rendering.TheVariants.{Rendered, Long, Bad, FewDefinitions, Conflicting, Deep, FewSpans, ShortPage}
-use Rattle.rendering.specs.Answers.{number_of, value_of, named_of, definition_count, span_count, page_length, Answers}
+use Rattle.std.specs.Prelude.{Ok, Err}
+use Rattle.rendering.specs.declared.Rendered.{Rendered}
+use Rattle.rendering.specs.declared.Refusal.{Refusal}
+use Rattle.rendering.specs.Answers.{Rendering, refusal_number, refusal_value, refusal_text, number_of, value_of, named_of, definition_count, span_count, page_length, Answers}
 use Rattle.rendering.specs.Promise.{Promise}
 use Rattle.rendering.proofs.Answers.{answers_iff, promised}
 use Rattle.notice_c.specs.Read.{is_yes}
 use Rattle.notice_c.specs.Render.{rendering, numbers_of, RenderPromise}
 
--- every number is a 32-bit number
-small : (x : Rendering) → number_of x < 2 ^ 32
-small (Rendered d n w) = omega arith
-small (Long x n) = omega arith
-small (Bad x k) = omega arith
-small (FewDefinitions n) = omega arith
-small (Conflicting n) = omega arith
-small (Deep k) = omega arith
-small (FewSpans n) = omega arith
-small (ShortPage n) = omega arith
-
-pub number_small : {n : ℕ} (x : Rendering) → n ≡ number_of x → n < 2 ^ 32
-number_small x e = rw e (small x)
-
 no_counts : (x : Rendering) → (number_of x ≡ 0 → ⊥) → numbers_of x ≡ value_of x ∷ 0 ∷ 0 ∷ 0 ∷ named_of x ∷ []
-no_counts (Rendered d n w) refused = absurd (refused refl)
-no_counts (Long x n) refused = refl
-no_counts (Bad x k) refused = refl
-no_counts (FewDefinitions n) refused = refl
-no_counts (Conflicting n) refused = refl
-no_counts (Deep k) refused = refl
-no_counts (FewSpans n) refused = refl
-no_counts (ShortPage n) refused = refl
+no_counts (Ok w) refused = absurd (refused refl)
+no_counts (Err r) refused = refl
 
 module _ {release : ℕ} {T : Texts} {t u p : List ℕ} {T' : Texts} {t' u' p' : List ℕ} where
-  -- what the page writer keeps and the numbers of its answer make the promise
-  pub render_kept : {x : Rendering} {n v d k w y : ℕ} → Promise (is_yes release) T t u p x T' t' u' p' → n ≡ number_of x → v ≡ value_of x → d ≡ definition_count x → k ≡ span_count x → w ≡ page_length x
-      → y ≡ named_of x → RenderPromise release T t u p n T' t' u' p' (v ∷ d ∷ k ∷ w ∷ y ∷ [])
-  render_kept kept number value definitions spans page named = record {
-    answered = rw (← kept.answer) number;
-    numbers = rw (← kept.answer, value, definitions, spans, page, named);
-    definitions = rw (← kept.answer) kept.definitions;
-    spans = rw (← kept.answer) kept.spans;
-    page = rw (← kept.answer) kept.page;
-    texts = kept.texts;
-  }
-
   module _ {n : ℕ} {answer : List ℕ} (kept : RenderPromise release T t u p n T' t' u' p' answer) where
     -- the page writer's own promise: with it demand 1 holds of the answer, and the page writer's claims of all that was lent
     pub as_rendered : Promise (is_yes release) T t u p (rendering release T t u p) T' t' u' p'

@@ -1,6 +1,7 @@
 -- The exported comparison's promise, and what follows from it.
 use Prim.Native.Nat.{ℕ}
 use native.Mathlib.Omega.{arith}
+use mir.Val.{bool_byte}
 use mathlib.Core.Path.{◌≡◌, refl, sym, ap, ◌∙◌}
 use mathlib.Core.Logic.{◌↔◌}
 use mathlib.Core.List.{List}
@@ -37,11 +38,13 @@ module _ (a b : List ℕ) {v : Bool} (tells : v ≡ matches a b) where
         b_kept = refl;
       }
 
-  pub yes : v ≡ true → SameLabelPromise a b 1 a b
-  yes e = kept (rw e)
+-- the comparison's answer as a number
+as_number : (v : Bool) → bool_byte v ≡ number_of v
+as_number true = refl
+as_number false = refl
 
-  pub no : v ≡ false → SameLabelPromise a b 0 a b
-  no e = kept (rw e)
+pub told : (a b : List ℕ) {v : Bool} → v ≡ matches a b → {n : ℕ} → n ≡ bool_byte v → SameLabelPromise a b n a b
+told a b {v} tells e = kept a b tells (e ∙ as_number v)
 
 module _ {a b a' b' : List ℕ} {n : ℕ} (p : SameLabelPromise a b n a' b') where
   -- no other result keeps the promise

@@ -3,8 +3,7 @@ use Rattle.std.specs.Prelude.{ℕ, ◌≡◌, List, [], ◌∷◌, Bool, not, eq
 use Rattle.texts.specs.Texts.{Texts}
 use Rattle.row.specs.Row as definition_table
 use Rattle.span.specs.Row as span_table
-use Rattle.notice.specs.declared.Reading.{Reading}
-use Rattle.notice.specs.Answers.{number_of, value_of, named_of, definition_count, span_count}
+use Rattle.notice.specs.Answers.{Reading, number_of, value_of, named_of, definition_count, span_count}
 use Rattle.notice.specs.Reading.{reading_of, definition_table_of, span_table_of}
 
 -- a number as a yes-or-no setting: 0 is no, any other number yes

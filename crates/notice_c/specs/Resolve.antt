@@ -1,29 +1,17 @@
 -- What the exported enquiry promises: the enquiry's answer in numbers, and that it changes nothing else.
-use Rattle.std.specs.Prelude.{ℕ, ◌≡◌, List, [], ◌∷◌, cond, eqb}
+use Rattle.std.specs.Prelude.{ℕ, ◌≡◌, List, [], ◌∷◌, Ok, Err}
 use Rattle.texts.specs.Texts.{Texts}
-use Rattle.enquiry.specs.declared.Enquiry.{Enquiry}
-use Rattle.enquiry.specs.declared.Enquiry.TheVariants.{Destination, Long, Bad, NotLabel, Undefined}
-use Rattle.enquiry.specs.Enquiry.{number_of, value_of, named_of}
+use Rattle.enquiry.specs.Enquiry.{Enquiry, number_of, value_of, named_of}
 use Rattle.enquiry.specs.Reading.{enquiry_of}
 
 -- The part that is handed back, as two places in the text that the answer names; 0, 0 on a refusal.
 abbrev pub destination_start : Enquiry → ℕ
-destination_start (Destination text start end) = start
-destination_start (Long text size) = 0
-destination_start (Bad text place) = 0
-destination_start NotLabel = 0
-destination_start Undefined = 0
+destination_start (Ok d) = d.start
+destination_start (Err refusal) = 0
 
 abbrev pub destination_end : Enquiry → ℕ
-destination_end (Destination text start end) = end
-destination_end (Long text size) = 0
-destination_end (Bad text place) = 0
-destination_end NotLabel = 0
-destination_end Undefined = 0
-
--- the start of the part, by the answer's number and value
-abbrev pub start_by : ℕ → ℕ → ℕ
-start_by number value = cond (eqb number 0) value 0
+destination_end (Ok d) = d.end
+destination_end (Err refusal) = 0
 
 -- the value ("its start or the table's value"), then the part, and the text that the answer names
 abbrev pub numbers_of : Enquiry → List ℕ

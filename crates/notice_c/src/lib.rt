@@ -4,9 +4,11 @@
 ghost use Rattle.texts.specs.Texts.{texts};
 ghost use Rattle.notice_c.specs.Read.{ReadPromise};
 ghost use Rattle.notice_c.specs.Render.{RenderPromise};
-ghost use Rattle.notice_c.specs.Resolve.{ResolvePromise, start_by};
+ghost use Rattle.notice_c.specs.Resolve.{ResolvePromise};
 ghost use Rattle.notice_c.specs.SameLabel.{SameLabelPromise};
-ghost use Rattle.std.specs.Prelude.{◌≡◌};
+
+use notice::Counts;
+use rendering::Rendered;
 
 // Reads a note with the sheet beside it, for a release where `release` is not 0: fills the two tables that are lent, or refuses. The answer's number is returned; its value, the counts
 // of definitions and spans and the text that it is about are stored.
@@ -21,14 +23,16 @@ pub extern "C" fn notice_read<'a>(
 ) -> u32
     ensures { ReadPromise release (texts note.now sheet.now) definitions.old spans.old result (texts note.exit.now sheet.exit.now) definitions.new spans.new answer.new }
 {
-    let reading = notice::read(note, sheet, release != 0, definitions, spans);
-    let number = notice::answer::number(reading);
-    let value = notice::answer::value(reading);
-    let definition_count = notice::answer::definition_count(reading);
-    let span_count = notice::answer::span_count(reading);
-    let text = notice::answer::text(reading);
-    *answer = [value, definition_count, span_count, text];
-    number as u32
+    match notice::read(note, sheet, release != 0, definitions, spans) {
+        Ok(Counts { definitions, spans }) => {
+            *answer = [0, definitions as u64, spans as u64, 0];
+            0
+        }
+        Err(refusal) => {
+            *answer = [refusal.value() as u64, 0, 0, refusal.text() as u64];
+            refusal.number()
+        }
+    }
 }
 
 // Writes a note's page, with the sheet beside it, for a release where `release` is not 0: fills the two tables and the page buffer that are lent, or refuses. The answer's number is
@@ -45,25 +49,17 @@ pub extern "C" fn notice_render<'a>(
 ) -> u32
     ensures { RenderPromise release (texts note.now sheet.now) definitions.old spans.old page.old result (texts note.exit.now sheet.exit.now) definitions.new spans.new page.new answer.new }
 {
-    let rendering = rendering::render(note, sheet, release != 0, definitions, spans, page);
-    let number = rendering::number(rendering);
-    let value = rendering::value(rendering);
-    let definition_count = rendering::definition_count(rendering);
-    let span_count = rendering::span_count(rendering);
-    let page_length = rendering::page_length(rendering);
-    let text = rendering::text(rendering);
-    *answer = [value, definition_count, span_count, page_length, text];
-    number as u32
-}
-
-// Where the part starts that the enquiry hands back beside its answer's number and value; 0 on a refusal.
-fn part_start(number: u64, value: u64) -> u64
-    ensures { result ≡ start_by number value }
-{
-    if number == 0 {
-        return value;
+    match rendering::render(note, sheet, release != 0, definitions, spans, page) {
+        Ok(Rendered { counts, bytes }) => {
+            let Counts { definitions, spans } = counts;
+            *answer = [0, definitions as u64, spans as u64, bytes as u64, 0];
+            0
+        }
+        Err(refusal) => {
+            *answer = [refusal.value() as u64, 0, 0, 0, refusal.text() as u64];
+            refusal.number()
+        }
     }
-    0
 }
 
 // The destination that the note and the sheet give to a label. The answer's number is returned; its value, the destination's start
@@ -77,15 +73,13 @@ pub extern "C" fn notice_resolve<'a>(
 ) -> u32
     ensures { ResolvePromise (texts note.now sheet.now) label.now result (texts note.exit.now sheet.exit.now) label.exit.now answer.new }
 {
-    let mut numbers = [0; 3];
-    let part = enquiry::resolve(note, sheet, label, &mut numbers);
-    let number = numbers[0];
-    let value = numbers[1];
-    let text = numbers[2];
-    let start = part_start(number, value);
-    let end = start + part.len() as u64;
-    *answer = [value, start, end, text];
-    number as u32
+    let found = enquiry::enquire(note, sheet, label);
+    let (start, end) = match found {
+        Ok(destination) => (destination.start as u64, destination.end as u64),
+        Err(_) => (0, 0),
+    };
+    *answer = [enquiry::value(found), start, end, enquiry::named(found)];
+    enquiry::number(found) as u32
 }
 
 // Whether two labels are equal, each given without its brackets: 1 where they are, and else 0.
@@ -93,8 +87,5 @@ pub extern "C" fn notice_resolve<'a>(
 pub extern "C" fn notice_same_label(a: &[u8], b: &[u8]) -> u32
     ensures { SameLabelPromise a.now b.now result a.exit.now b.exit.now }
 {
-    if alike::same_label(a, b) {
-        return 1;
-    }
-    0
+    u32::from(alike::same_label(a, b))
 }

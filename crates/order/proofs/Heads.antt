@@ -1,21 +1,24 @@
 -- How two lists stand by their first numbers.
 use Prim.Native.Nat.{ℕ, ◌<◌}
 use native.Mathlib.Omega.{arith}
-use mathlib.Core.Path.{◌≡◌}
+use mathlib.Core.Path.{◌≡◌, ap}
 use mathlib.Core.List.{List, ◌∷◌}
-use mathlib.Core.Bool.{false}
-use borrow.Author.Tests.{lt-ltb, le-ltb}
-use lib.Dec.{ltb}
-use Rattle.order.specs.Order.{less, greater, order}
+use Rattle.std.specs.declared.cmp.Ordering.{Ordering}
+use Rattle.std.specs.declared.cmp.Ordering.TheVariants.{Less, Equal, Greater}
+use Rattle.std.specs.Ordering.{nat_cmp, ordering_then}
+use Rattle.std.proofs.lemmas.Bool.Decides.{nat_tests}
+use Rattle.order.specs.Order.{order}
 
-pub head_less : (x y : ℕ) (s t : List ℕ) → x < y → order (x ∷ s) (y ∷ t) ≡ less
-unfolding order
-head_less x y s t h = rw (lt-ltb x y h, order)
+module _ (x y : ℕ) (s t : List ℕ) where
+  by_head : (o : Ordering) → nat_cmp x y ≡ o → order (x ∷ s) (y ∷ t) ≡ ordering_then o (order s t)
+  unfolding order
+  by_head o e = ap (λ (o : Ordering). ordering_then o (order s t)) e
 
-pub head_greater : (x y : ℕ) (s t : List ℕ) → y < x → order (x ∷ s) (y ∷ t) ≡ greater
-unfolding order
-head_greater x y s t h = let z : ltb x y ≡ false = le-ltb x y (omega arith) in rw (z, order, lt-ltb y x h)
+  pub head_less : x < y → order (x ∷ s) (y ∷ t) ≡ Less
+  head_less h = by_head Less (grind (arith, nat_tests))
+
+  pub head_greater : y < x → order (x ∷ s) (y ∷ t) ≡ Greater
+  head_greater h = by_head Greater (grind (arith, nat_tests))
 
 pub head_same : (x : ℕ) (s t : List ℕ) → order (x ∷ s) (x ∷ t) ≡ order s t
-unfolding order
-head_same x s t = let z : ltb x x ≡ false = le-ltb x x (omega arith) in rw (z, order, z)
+head_same x s t = by_head x x s t Equal (grind (arith, nat_tests))

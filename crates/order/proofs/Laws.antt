@@ -5,62 +5,53 @@ use mathlib.Core.Path.{◌≡◌, refl, sym, ap, ap₂, ◌∙◌}
 use mathlib.Core.List.{List, [], ◌∷◌}
 use borrow.Author.Tests.{ltb-true, ltb-false}
 use lib.Dec.{ltb}
+use Rattle.std.specs.declared.cmp.Ordering.{Ordering}
+use Rattle.std.specs.declared.cmp.Ordering.TheVariants.{Less, Equal, Greater}
+use Rattle.std.specs.Ordering.{nat_cmp, ordering_then, flip_args}
+use Rattle.std.specs.Cmp.{IsTotalOrder}
+use Rattle.std.specs.Cmp.Lexicographic.{slice_cmp}
+use Rattle.std.proofs.lemmas.Cmp.{ranked, nat_cmp_total, back_total, lists_total, tied_itself}
 use Rattle.scan.proofs.Test.{by}
-use Rattle.order.specs.Order.{less, equal, greater, order, key, rank}
+use Rattle.order.specs.Order.{order, key, rank}
 use Rattle.order.proofs.Heads.{head_less, head_greater, head_same}
 
-pub order_refl : (s : List ℕ) → order s s ≡ equal
+-- ---- it is std's order of lists, with both the bytes and the lists the other way round
+abbrev backwards : List ℕ → List ℕ → Ordering
+backwards = slice_cmp (flip_args nat_cmp)
+
+as_std : (s t : List ℕ) → order s t ≡ backwards t s
 unfolding order
-order_refl [] = refl
-order_refl (x ∷ s) = head_same x s s ∙ order_refl s
+as_std [] [] = refl
+as_std [] (y ∷ t) = refl
+as_std (x ∷ s) [] = refl
+as_std (x ∷ s) (y ∷ t) = ap (ordering_then (nat_cmp x y)) (as_std s t)
 
--- ---- how two heads can stand
-data Heads (x y : ℕ) (s t : List ℕ) : Type 0 where
-  below : x < y → order (x ∷ s) (y ∷ t) ≡ less → Heads x y s t
-  above : y < x → order (x ∷ s) (y ∷ t) ≡ greater → Heads x y s t
-  same : x ≡ y → order (x ∷ s) (y ∷ t) ≡ order s t → Heads x y s t
+total : IsTotalOrder backwards
+total = lists_total (back_total nat_cmp_total)
 
-heads : (x y : ℕ) (s t : List ℕ) → Heads x y s t
-heads x y s t =
-    by (ltb x y) (λ e. let h = ltb-true x y e in below h (head_less x y s t h))
-    (λ e. by (ltb y x) (λ f. let h = ltb-true y x f in above h (head_greater x y s t h))
-    (λ f. let h = ltb-false x y e in let k = ltb-false y x f in let q : x ≡ y = omega arith in same q (rw q (head_same y s t))))
+order_refl : (s : List ℕ) → order s s ≡ Equal
+order_refl s = as_std s s ∙ tied_itself total s
 
-pub order_equal : (s t : List ℕ) → order s t ≡ equal → s ≡ t
+order_less : (s t u : List ℕ) → order s t ≡ Less → order t u ≡ Less → order s u ≡ Less
+order_less s t u e f = as_std s u ∙ total.trans u t s (sym (as_std t u) ∙ f) (sym (as_std s t) ∙ e)
+
+-- a tie is one at the heads, and after them
+tie : (o p : Ordering) → ordering_then o p ≡ Equal → (o ≡ Equal) × (p ≡ Equal)
+tie Less p e = grind (arith, e)
+tie Equal p e = (refl, e)
+tie Greater p e = grind (arith, e)
+
+order_equal : (s t : List ℕ) → order s t ≡ Equal → s ≡ t
 unfolding order
 order_equal [] [] e = refl
-order_equal [] (y ∷ t) e = absurd (omega arith)
-order_equal (x ∷ s) [] e = absurd (omega arith)
-order_equal (x ∷ s) (y ∷ t) e = go (order_equal s t) (heads x y s t)
-  where
-    go : (order s t ≡ equal → s ≡ t) → Heads x y s t → (x ∷ s) ≡ (y ∷ t)
-    go ih (below h q) = let z : ◌≡◌ {A = ℕ} 0 1 = sym q ∙ e in absurd (omega arith)
-    go ih (above h q) = let z : ◌≡◌ {A = ℕ} 2 1 = sym q ∙ e in absurd (omega arith)
-    go ih (same h q) = ap₂ (λ (a : ℕ) (l : List ℕ). a ∷ l) h (ih (sym q ∙ e))
-
-pub order_less : (s t u : List ℕ) → order s t ≡ less → order t u ≡ less → order s u ≡ less
-unfolding order
-order_less [] [] u e f = absurd (omega arith)
-order_less [] (y ∷ t) u e f = absurd (omega arith)
-order_less (x ∷ s) [] [] e f = absurd (omega arith)
-order_less (x ∷ s) [] (z ∷ u) e f = absurd (omega arith)
-order_less (x ∷ s) (y ∷ t) [] e f = refl
-order_less (x ∷ s) (y ∷ t) (z ∷ u) e f = go (order_less s t u) (heads x y s t) (heads y z t u)
-  where
-    go : (order s t ≡ less → order t u ≡ less → order s u ≡ less) → Heads x y s t → Heads y z t u → order (x ∷ s) (z ∷ u) ≡ less
-    go ih (above h q) (below k r) = let w : ◌≡◌ {A = ℕ} 2 0 = sym q ∙ e in absurd (omega arith)
-    go ih (above h q) (above k r) = let w : ◌≡◌ {A = ℕ} 2 0 = sym q ∙ e in absurd (omega arith)
-    go ih (above h q) (same k r) = let w : ◌≡◌ {A = ℕ} 2 0 = sym q ∙ e in absurd (omega arith)
-    go ih (below h q) (above k r) = let w : ◌≡◌ {A = ℕ} 2 0 = sym r ∙ f in absurd (omega arith)
-    go ih (same h q) (above k r) = let w : ◌≡◌ {A = ℕ} 2 0 = sym r ∙ f in absurd (omega arith)
-    go ih (below h q) (below k r) = head_less x z s u (omega arith)
-    go ih (below h q) (same k r) = head_less x z s u (omega arith)
-    go ih (same h q) (below k r) = head_less x z s u (omega arith)
-    go ih (same h q) (same k r) =
-        let w : z ≡ x = omega arith in rw w (head_same x s u ∙ ih (sym q ∙ e) (sym r ∙ f))
+order_equal [] (y ∷ t) e = grind (arith, e)
+order_equal (x ∷ s) [] e = grind (arith, e)
+order_equal (x ∷ s) (y ∷ t) e =
+    let h = tie (nat_cmp x y) (order s t) e in
+    ap₂ (λ (a : ℕ) (l : List ℕ). a ∷ l) (ranked x y Equal (sym h.0)) (order_equal s t h.1)
 
 -- ---- the same of the order by key first
-pub rank_refl : (c : List ℕ) → rank c c ≡ equal
+pub rank_refl : (c : List ℕ) → rank c c ≡ Equal
 unfolding rank
 rank_refl c = order_refl (key c ∷ c)
 
@@ -68,20 +59,20 @@ tail : List ℕ → List ℕ
 tail [] = []
 tail (x ∷ s) = s
 
-pub rank_equal : (c d : List ℕ) → rank c d ≡ equal → c ≡ d
+pub rank_equal : (c d : List ℕ) → rank c d ≡ Equal → c ≡ d
 unfolding rank tail
 rank_equal c d e = ap tail (order_equal (key c ∷ c) (key d ∷ d) e)
 
-pub rank_less : (c d e : List ℕ) → rank c d ≡ less → rank d e ≡ less → rank c e ≡ less
+pub rank_less : (c d e : List ℕ) → rank c d ≡ Less → rank d e ≡ Less → rank c e ≡ Less
 unfolding rank
 rank_less c d e = order_less (key c ∷ c) (key d ∷ d) (key e ∷ e)
 
 -- ---- by the keys alone
-pub rank_below : (c d : List ℕ) → key c < key d → rank c d ≡ less
+pub rank_below : (c d : List ℕ) → key c < key d → rank c d ≡ Less
 unfolding rank
 rank_below c d h = head_less (key c) (key d) c d h
 
-pub rank_above : (c d : List ℕ) → key d < key c → rank c d ≡ greater
+pub rank_above : (c d : List ℕ) → key d < key c → rank c d ≡ Greater
 unfolding rank
 rank_above c d h = head_greater (key c) (key d) c d h
 
@@ -90,9 +81,8 @@ unfolding rank
 rank_level c d e = rw e (head_same (key d) c d)
 
 -- what is not greater has no greater key
-pub rank_keys : (c d : List ℕ) → rank c d ≡ less → key c ≤ key d
-unfolding rank
+pub rank_keys : (c d : List ℕ) → rank c d ≡ Less → key c ≤ key d
 rank_keys c d e =
     by (ltb (key d) (key c))
-    (λ g. let w : ◌≡◌ {A = ℕ} 2 0 = sym (head_greater (key c) (key d) c d (ltb-true (key d) (key c) g)) ∙ e in absurd (omega arith))
+    (λ g. let w : ◌≡◌ {A = Ordering} Greater Less = sym (rank_above c d (ltb-true (key d) (key c) g)) ∙ e in grind (arith, w))
     (λ g. ltb-false (key d) (key c) g)

@@ -1,15 +1,16 @@
 -- Forms in their order, by computation.
 use Rattle.std.specs.Prelude.{◌≡◌, refl, []}
+use Rattle.std.specs.declared.cmp.Ordering.TheVariants.{Less, Equal, Greater}
 use Rattle.scan.specs.Ascii.{ascii}
-use Rattle.order.specs.Order.{less, equal, greater, order, mix, mixed, front, key}
+use Rattle.order.specs.Order.{order, mix, mixed, front, key}
 
 pub record Orders : Type 0 where
-  pub same : order (ascii "max") (ascii "max") ≡ equal
-  pub byte : order (ascii "man") (ascii "max") ≡ less
-  pub back : order (ascii "max") (ascii "man") ≡ greater
+  pub same : order (ascii "max") (ascii "max") ≡ Equal
+  pub byte : order (ascii "man") (ascii "max") ≡ Less
+  pub back : order (ascii "max") (ascii "man") ≡ Greater
   -- the longer comes first
-  pub front : order (ascii "max dose") (ascii "max") ≡ less
-  pub none : order [] (ascii "max") ≡ greater
+  pub front : order (ascii "max dose") (ascii "max") ≡ Less
+  pub none : order [] (ascii "max") ≡ Greater
 
 pub orders : Orders
 unfolding order

@@ -1,4 +1,5 @@
 -- What the loop keeps: from where the code stands, the scan comes to the same end as from its start.
+use Rattle.std.specs.Prelude.{Ok}
 use Prim.Native.Nat.{ℕ, ◌+◌, ◌-◌, ◌≤◌, ◌<◌}
 use native.Mathlib.Nat.{add-zero}
 use native.Mathlib.Omega.{arith}
@@ -28,13 +29,13 @@ use Rattle.inline.specs.Reading.{grammar}
 use Rattle.inline.specs.ReadingRows.{row_for}
 use Rattle.inline.proofs.Computing.{sound}
 use Rattle.step.specs.Reading.{stored_all}
-use Rattle.step.specs.Promise.{afresh, Lined, spans_at, Steps}
+use Rattle.step.specs.Promise.{last_place, afresh, Lined, spans_at, Steps}
 use Rattle.paragraph.specs.Promise.{open_places, Waits, Reads}
 use Rattle.step.specs.declared.Walk.{Walk}
 use Rattle.inline.proofs.Pieces.{at_open, at_image}
 use Rattle.scan.proofs.Scan.{peek_inside}
 use Rattle.step.specs.Promise.{Opening}
-use Rattle.paragraph.specs.declared.Tally.TheVariants.{Spans}
+use Rattle.paragraph.specs.declared.Bracket.{Bracket}
 use Rattle.paragraph.proofs.Stack.{opens_here, closes_here, open_length}
 use Rattle.paragraph.proofs.Most.{SoFar, so_far_starts, Few, few_none, few_close, CodeEnds, next_mark, next_text, next_close, next_open, next_image, Begins, mark, text, close, link, image, begins}
 
@@ -65,10 +66,10 @@ module _ (s : List ℕ) (offset : ℕ) (p : List ℕ) (labels : List (List ℕ))
   rows = map (row_for offset p ds)
 
   -- where the code stands, as a state of the scan; the spans so far are xs
-  abbrev scan_of : List ℕ → Walk → List (marked.Span Tail) → Scan Tail
-  scan_of stack w xs = record { place = w.at; stack = open_places w stack; last_link = w.last; spans = xs }
+  abbrev scan_of : List Bracket → Walk → List (marked.Span Tail) → Scan Tail
+  scan_of stack w xs = record { place = w.at; stack = open_places w stack; last_link = last_place w.last; spans = xs }
 
-  pub record On (stack : List ℕ) (w : Walk) (t : List ℕ) : Type 0 where
+  pub record On (stack : List Bracket) (w : Walk) (t : List ℕ) : Type 0 where
     pub xs : List (marked.Span Tail)
     pub same_end : finish g (scan_of stack w xs) ≡ finish g scan_start
     pub same_over : overs depth_limit g (scan_of stack w xs) ≡ overs depth_limit g scan_start
@@ -81,7 +82,7 @@ module _ (s : List ℕ) (offset : ℕ) (p : List ℕ) (labels : List (List ℕ))
     pub line_before : Before s w.line (offset + w.at)
     pub so_far : SoFar p k w.at w.row w.depth
 
-  pub on_start : (stack : List ℕ) → depth_limit + depth_limit ≤ length stack → offset + length p ≤ length s → (w : Walk) → w.row ≡ k → Before s w.line offset → On stack (afresh w) t₀
+  pub on_start : (stack : List Bracket) → depth_limit ≤ length stack → offset + length p ≤ length s → (w : Walk) → w.row ≡ k → Before s w.line offset → On stack (afresh w) t₀
   unfolding scan_start Rows.stored_all
   on_start stack e i w q b =
       record {
@@ -98,8 +99,8 @@ module _ (s : List ℕ) (offset : ℕ) (p : List ℕ) (labels : List (List ℕ))
         so_far = rw q (so_far_starts p k);
       }
 
-  module _ {stack : List ℕ} {w : Walk} {t : List ℕ} (o : On stack w t) where
-    pub on_end : length p ≤ w.at → Reads s offset p labels ds k t₀ (Spans w) t
+  module _ {stack : List Bracket} {w : Walk} {t : List ℕ} (o : On stack w t) where
+    pub on_end : length p ≤ w.at → Reads s offset p labels ds k t₀ (Ok w) t
     unfolding over spans
     on_end h =
         let f : over depth_limit g ≡ none = sym o.same_over ∙ overs_end depth_limit g (scan_of stack w o.xs) h in
@@ -126,7 +127,7 @@ module _ (s : List ℕ) (offset : ℕ) (p : List ℕ) (labels : List (List ℕ))
       abbrev more : Match Tail → List (marked.Span Tail)
       more = spans_at s offset p labels ds w.at
 
-      module _ (stack' : List ℕ) {f : Match Tail} {w' : Walk} {u : List ℕ} (y : Steps s offset p labels ds f w t w' u) (ef : scan_found g here ≡ f)
+      module _ (stack' : List Bracket) {f : Match Tail} {w' : Walk} {u : List ℕ} (y : Steps s offset p labels ds f w t w' u) (ef : scan_found g here ≡ f)
           (es : stack_by w.at (open_places w stack) (role (piece_from p w.at).kind) ≡ open_places w' stack') where
         next : scan_step g here ≡ scan_of stack' w' (o.xs ++ more f)
         unfolding scan_step
@@ -136,7 +137,7 @@ module _ (s : List ℕ) (offset : ℕ) (p : List ℕ) (labels : List (List ℕ))
             (record {
               place = place_after g (piece_at g w.at) x;
               stack = stack_by w.at (open_places w stack) (role (piece_from p w.at).kind);
-              last_link = last_after w.last x;
+              last_link = last_after (last_place w.last) x;
               spans = o.xs ++ new_spans (piece_at g) (piece_at g w.at) x;
             }))
             ef
@@ -151,11 +152,11 @@ module _ (s : List ℕ) (offset : ℕ) (p : List ℕ) (labels : List (List ℕ))
         -- ---- no more than the paragraph can have at the most
         alone_here : role (piece_from p w.at).kind ≡ nothing → f ≡ alone
         unfolding scan_found
-        alone_here e = sym ef ∙ ap (found_by (λ a. sort_of (g.kind_at a)) (λ a. g.tail_at (g.end_at a) w.at) w.last (open_places w stack)) e
+        alone_here e = sym ef ∙ ap (found_by (λ a. sort_of (g.kind_at a)) (λ a. g.tail_at (g.end_at a) w.at) (last_place w.last) (open_places w stack)) e
 
         alone_open : role (piece_from p w.at).kind ≡ opening → f ≡ alone
         unfolding scan_found
-        alone_open e = sym ef ∙ ap (found_by (λ a. sort_of (g.kind_at a)) (λ a. g.tail_at (g.end_at a) w.at) w.last (open_places w stack)) e
+        alone_open e = sym ef ∙ ap (found_by (λ a. sort_of (g.kind_at a)) (λ a. g.tail_at (g.end_at a) w.at) (last_place w.last) (open_places w stack)) e
 
         -- the piece gives no row
         no_row : f ≡ alone → is_code (piece_from p w.at).kind ≡ false → w'.row ≡ w.row

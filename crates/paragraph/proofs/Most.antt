@@ -1,4 +1,5 @@
 -- The spans so far and the brackets that are open, by the bytes that were passed: no more than the paragraph can have at the most.
+use Rattle.std.specs.Prelude.{None, Option, Some}
 use Prim.Native.Nat.{ℕ, suc, ◌+◌, ◌-◌, ◌≤◌, ◌<◌}
 use native.Mathlib.Omega.{arith}
 use mathlib.Core.Path.{◌≡◌, refl, sym, ap, ◌∙◌}
@@ -11,8 +12,6 @@ use lib.Seq.{get_or-drop}
 use native.Mathlib.Nat.{add-zero}
 use Rattle.scan.proofs.Test.{by, and_left}
 use Rattle.scan.specs.Byte.{punctuation, escapes}
-use Rattle.scan.specs.declared.Found.{Found as Place}
-use Rattle.scan.specs.declared.Found.TheVariants as place
 use Rattle.scan.specs.Reading.{run}
 use Rattle.marking.specs.Marking.{Role, nothing, opening, closing, role, Kind, escape, plain, Piece}
 use Rattle.marking.specs.Reading.{is_code}
@@ -67,8 +66,8 @@ abbrev pub CodeEnds : List ℕ → ℕ → Piece → Type 0
 CodeEnds p a q = is_code q.kind ≡ true → 1 + ends (drop q.end p) ≤ ends (drop a p)
 
 module _ (p : List ℕ) (a n : ℕ) (r : Backticks p a n) where
-  code_ends : (f : Place) → closing_run n (drop (a + n) p) (a + n) ≡ f → CodeEnds p a (span_or_text a (a + n) f)
-  code_ends (place.At e) q c =
+  code_ends : (f : Option ℕ) → closing_run n (drop (a + n) p) (a + n) ≡ f → CodeEnds p a (span_or_text a (a + n) f)
+  code_ends (Some e) q c =
       let m = (closing_run_iff p (a + n) n r.nonempty (ticks_end p a n r) e).0 q in
       let u = m.first.run.run in
       let some = u.nonempty in
@@ -77,7 +76,7 @@ module _ (p : List ℕ) (a n : ℕ) (r : Backticks p a n) where
       let z = ends_tick p j (ticks_in p m.place n u (n - 1) (omega arith)) (rw i at (ticks_end p m.place n u)) in
       let g : e ≡ j + 1 = omega (arith, m.ends) in
       rw g (omega (arith, ends_later p a j (omega (arith, m.first.later))))
-  code_ends place.Nothing q c = absurd (true≢false (sym c))
+  code_ends None q c = absurd (true≢false (sym c))
 
 -- ---- one piece further, past the byte at a
 module _ (p : List ℕ) (k a r d : ℕ) (h : a < length p) (x : SoFar p k a r d) {a' r' : ℕ} (on : a < a') (few : Few p a r a' r') where
@@ -125,9 +124,9 @@ pub data Begins (p : List ℕ) (a : ℕ) : Type 0 where
   link : get_or p a 0 ≡ 91 → Begins p a
   image : get_or p a 0 ≡ 33 → get_or p (a + 1) 0 ≡ 91 → image_opens (drop a p) ≡ true → Begins p a
 
-run_role : (a e : ℕ) (f : Place) → role (span_or_text a e f).kind ≡ nothing
-run_role a e (place.At c) = refl
-run_role a e place.Nothing = refl
+run_role : (a e : ℕ) (f : Option ℕ) → role (span_or_text a e f).kind ≡ nothing
+run_role a e (Some c) = refl
+run_role a e None = refl
 
 module _ (p : List ℕ) (a : ℕ) where
   escaped : escapes (drop a p) ≡ true → Begins p a

@@ -1,56 +1,77 @@
 // The spans of one paragraph, read from left to right.
 #![tactic(auto)]
 
-ghost use Rattle.std.specs.Prelude.{◌≡◌};
-ghost use Rattle.texts.specs.Texts.{texts};
+ghost use Rattle.std.specs.Prelude.{◌≡◌, ◌<◌, length};
 ghost use Rattle.row.specs.First.{bytes_of};
 ghost use Rattle.row.specs.Row.{range};
-ghost use Rattle.row.specs.Reading.{Fit, definitions_from};
-ghost use Rattle.index.specs.Index.{Ready as Indexed};
+ghost use Rattle.index.specs.Rows.{ReadyFor};
 ghost use Rattle.parens.specs.Unclosed.{Prepared};
-ghost use Rattle.tail.specs.Ending.{labels_in};
+ghost use Rattle.tail.specs.Ending.{all_labels};
 ghost use Rattle.span.specs.Row.{whole_rows};
+ghost use Rattle.step.specs.Reading.{all_definitions};
 ghost use Rattle.step.specs.Promise.{Bounds, Lined, lined};
-ghost use Rattle.paragraph.specs.Promise.{opened, pushed, Room, Waits, Closing, Brackets, Lies, Lent, Reads};
+ghost use Rattle.paragraph.specs.Promise.{cleared, opened, pushed, Room, Waits, Closing, Brackets, Lies, Reads};
 
+use row::Definitions;
 use step::Walk;
 
 // The most brackets that may be open at once.
 pub const DEPTH_LIMIT: usize = 1024;
 
-// The numbers of the stack: a place for each bracket that may be open, and then a line for each.
-pub const STACK: usize = 2 * DEPTH_LIMIT;
-
-// What the reading of paragraphs answers: the place of the first bracket too many; or where the walk stands at the end, which tells the
-// row after the last span's and the last line that was asked for.
+// A bracket that is open: its place in the paragraph, and its line if a row more can be stored.
 #[derive(Clone, Copy)]
-pub enum Tally {
-    Deep(usize),
-    Spans(Walk),
+pub struct Bracket {
+    pub at: u32,
+    pub line: u32,
 }
 
-// Past the opening piece of `size` bytes at the walk's place, whose bracket is open from now on. Its place is kept in the first half of the
-// stack, its line in the second.
+// What is lent to the reading of paragraphs, to be written in: what it holds is of no account. The stack has the brackets that are open.
+#[derive(Drop)]
+pub struct Lent<const MARKS: usize> {
+    pub stack: [Bracket; DEPTH_LIMIT],
+    pub runs: Option<[u32; ticks::LENGTHS]>,
+    pub marks: [bool; MARKS],
+}
+
+impl<const MARKS: usize> Lent<MARKS> {
+    pub fn new() -> Lent<MARKS>
+        ensures { result ≡ cleared MARKS }
+    {
+        Lent {
+            stack: [Bracket { at: 0, line: 0 }; DEPTH_LIMIT],
+            runs: None,
+            marks: [false; MARKS],
+        }
+    }
+}
+
+// The place in the note of the first bracket too many.
+#[derive(Clone, Copy)]
+pub struct Deep {
+    pub place: usize,
+}
+
+// Past the opening piece that starts at the walk's place and ends at `end`: its bracket is open from now on.
 fn open_bracket(
     note: &[u8],
     start: usize,
     spans: &[u32],
     w: Walk,
-    size: usize,
-    stack: &mut [u32],
+    end: usize,
+    stack: &mut [Bracket],
 ) -> Walk
     requires lined { Lined note.now start w }
-    requires room { Room start w size stack.old }
-    ensures value { result ≡ opened size (lined note.now start spans.now w) }
+    requires room { Room start w end stack.old }
+    ensures value { result ≡ opened end (lined note.now start spans.now w) }
     ensures stack_after { stack.new ≡ pushed stack.old w result.line.number }
 {
-    let at = w.at;
-    let depth = w.depth;
     let mut v = step::count_lines(note, start, spans, w);
-    stack[depth] = at as u32;
-    stack[DEPTH_LIMIT + depth] = v.line.number as u32;
-    v.at = at + size;
-    v.depth = depth + 1;
+    stack[w.depth] = Bracket {
+        at: w.at as u32,
+        line: v.line.number as u32,
+    };
+    v.at = end;
+    v.depth = w.depth + 1;
     v
 }
 
@@ -58,80 +79,75 @@ fn open_bracket(
 fn close_bracket<'a>(
     p: &[u8],
     start: usize,
-    note: &'a [u8],
-    sheet: &'a [u8],
-    table: &[u32],
-    count: usize,
+    definitions: &Definitions<'a>,
     index: &mut [u32],
     spans: &mut [u32],
     w: Walk,
-    stack: &[u32],
-    marks: &mut [u8],
+    stack: &[Bracket],
+    marks: &mut [bool],
 ) -> Walk
     requires closing { Closing p.now w }
-    requires waits { Waits note.now start p.now (whole_rows spans.old) w stack.now }
-    requires bounds { Bounds start p.now count w }
-    requires fit { Fit (texts note.now sheet.now) table.now count }
-    requires indexed { Indexed (texts note.now sheet.now) table.now count index.old }
+    requires waits { Waits definitions.now.note.now start p.now (whole_rows spans.old) w stack.now }
+    requires bounds { Bounds start p.now definitions.now.count w }
+    requires indexed { ReadyFor definitions.now index.old }
     requires prepared { Prepared p.now w.at marks.old }
-    requires lined { Lined note.now start w }
-    ensures brackets { Brackets note.now start p.now (labels_in (texts note.now sheet.now) table.now count) (definitions_from table.now 0 count) w stack.now spans.old result stack.now spans.new }
+    requires lined { Lined definitions.now.note.now start w }
+    ensures brackets { Brackets definitions.now.note.now start p.now (all_labels definitions.now) (all_definitions definitions.now) w stack.now spans.old result stack.now spans.new }
     ensures prepared_2 { Prepared p.now result.at marks.new }
-    ensures indexed_2 { Indexed (texts note.now sheet.now) table.now count index.new }
+    ensures indexed_2 { ReadyFor definitions.now index.new }
 {
-    let depth = w.depth - 1;
-    let opening = stack[depth] as usize;
-    let line = stack[DEPTH_LIMIT + depth] as usize;
-    step::close_pair(
-        p, start, note, sheet, table, count, index, spans, w, opening, line, marks,
-    )
+    let Bracket { at, line } = stack[w.depth - 1];
+    let opening = at as usize;
+    let line = line as usize;
+    step::close_pair(p, start, definitions, index, spans, w, opening, line, marks)
 }
 
 // The spans of the paragraph that stands in the note from `start` to `end`: their rows go into `spans` from the row of `from` on,
-// as far as they fit. Definitions are the first `count` rows of `table`, and `index` is lent for an index of them. `stack`, `runs` and `marks` are lent to be written in: what
-// they hold is of no account. One number of the last two says that nothing of this paragraph stands there yet; of the stack only
-// what has been put on it is read.
-pub fn read_paragraph<'a>(
-    note: &'a [u8],
-    sheet: &'a [u8],
+// as far as they fit. `index` is lent for an index of the definitions. One of the marks says that nothing of this paragraph stands there yet;
+// of the stack only what has been put on it is read.
+pub fn read_paragraph<'a, const MARKS: usize>(
     start: usize,
     end: usize,
-    table: &[u32],
-    count: usize,
+    definitions: &Definitions<'a>,
     index: &mut [u32],
     spans: &mut [u32],
     from: Walk,
-    stack: &mut [u32],
-    runs: &mut [u32; ticks::LENGTHS],
-    marks: &mut [u8],
-) -> Tally
-    requires lies { Lies note.now start end count from }
-    requires fit { Fit (texts note.now sheet.now) table.now count }
-    requires indexed { Indexed (texts note.now sheet.now) table.now count index.old }
-    requires lent { Lent note.now stack.old marks.old }
-    ensures reads { Reads note.now start (bytes_of note.now (range start end)) (labels_in (texts note.now sheet.now) table.now count) (definitions_from table.now 0 count) from.row spans.old result spans.new }
-    ensures indexed_2 { Indexed (texts note.now sheet.now) table.now count index.new }
+    lent: &mut Lent<MARKS>,
+) -> Result<Walk, Deep>
+    requires lies { Lies definitions.now.note.now start end definitions.now.count from }
+    requires indexed { ReadyFor definitions.now index.old }
+    requires bytes { length definitions.now.note.now < MARKS }
+    ensures reads { Reads definitions.now.note.now start (bytes_of definitions.now.note.now (range start end)) (all_labels definitions.now) (all_definitions definitions.now) from.row spans.old result spans.new }
+    ensures indexed_2 { ReadyFor definitions.now index.new }
 {
+    let note = definitions.note;
     let p = &note[start..end];
-    runs[0] = 0;
-    marks[p.len()] = 0;
+    lent.runs = None;
+    lent.marks[p.len()] = false;
     let mut w = step::afresh(from);
     while w.at < p.len() {
-        let at = w.at;
-        let size = step::opening_size(p, at);
-        if 0 < size {
+        if let Some(next) = step::opening_end(p, w.at) {
             if w.depth == DEPTH_LIMIT {
-                return Tally::Deep(at + size - 1);
+                return Err(Deep {
+                    place: start + (next - 1),
+                });
             }
-            w = open_bracket(note, start, spans, w, size, stack);
-        } else if (p[at] == 93) & (0 < w.depth) {
+            w = open_bracket(note, start, spans, w, next, &mut lent.stack);
+        } else if (p[w.at] == 93) & (0 < w.depth) {
             w = close_bracket(
-                p, start, note, sheet, table, count, index, spans, w, stack, marks,
+                p,
+                start,
+                definitions,
+                index,
+                spans,
+                w,
+                &lent.stack,
+                &mut lent.marks,
             );
         } else {
-            w = step::pass_piece(p, start, note, spans, w, runs);
+            w = step::pass_piece(p, start, note, spans, w, &mut lent.runs);
         }
         w.at = inline::plain_end(p, w.at);
     }
-    Tally::Spans(w)
+    Ok(w)
 }

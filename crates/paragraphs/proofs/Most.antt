@@ -12,10 +12,8 @@ use Rattle.scan.proofs.Test.{by, and_left, and_right}
 use Rattle.definition.specs.Reading.{paragraphs}
 use Rattle.row.specs.Row.{range}
 use Rattle.row.specs.First.{bytes_of}
-use Rattle.walk.specs.declared.Paragraph.{Paragraph}
-use Rattle.walk.specs.declared.Paragraph.TheVariants as paragraph
-use Rattle.walk.specs.Reading.{paragraphs_from, from}
-use Rattle.walk.specs.Promise.{FirstParagraph, IsParagraph, Onward}
+use Rattle.walk.specs.Reading.{paragraphs_from}
+use Rattle.walk.specs.Promise.{FirstParagraph}
 use Rattle.walk.proofs.Whole.{all_paragraphs}
 use Rattle.most.specs.Most.{ends_span, bit, ends, stays, held, ends_of, held_of}
 use Rattle.note.specs.Note.{depth_limit}
@@ -54,11 +52,10 @@ module _ (s : List ℕ) where
     inside = omega arith;
   }
 
-  module _ {at e h : ℕ} (t : Tallied s at e h) {x : Paragraph} (q : IsParagraph s at x) where
-    pub all_tallied : x ≡ paragraph.End → {rows : ℕ} → (leb e rows && ltb h depth_limit) ≡ true → Surely s rows
+  module _ {at e h : ℕ} (t : Tallied s at e h) where
+    pub all_tallied : paragraphs_from s at ≡ [] → {rows : ℕ} → (leb e rows && ltb h depth_limit) ≡ true → Surely s rows
     unfolding ends_of held_of
-    all_tallied ex {rows} y =
-        let none_left : paragraphs_from s at ≡ [] = rw ex at q in
+    all_tallied none_left {rows} y =
         let a = rw none_left at t.ends_are in
         let b = rw none_left at t.held_are in
         record {
@@ -66,10 +63,7 @@ module _ (s : List ℕ) where
           never = omega (arith, ltb-true h depth_limit (and_right (leb e rows) (ltb h depth_limit) y));
         }
 
-    module _ {a z n : ℕ} (ex : x ≡ paragraph.At a z n) where
-      here : FirstParagraph s at a z n
-      here = rw ex at q
-
+    module _ {a z n : ℕ} (here : FirstParagraph s at a z n) where
       abbrev p : List ℕ
       p = bytes_of s (range a z)
 
@@ -81,12 +75,6 @@ module _ (s : List ℕ) where
 
       pub part_short : length p ≤ length s
       part_short = omega (arith, size, here.ends, here.inside)
-
-      pub onward : at < n
-      onward = here.onward
-
-      pub within : n ≤ length s
-      within = here.inside
 
       pub tallied_more : {e' h' : ℕ} → e' ≡ ends p → h' ≡ held p → Tallied s n (e + e') (h + h')
       unfolding ends_of held_of
@@ -100,7 +88,3 @@ module _ (s : List ℕ) where
             few_held = omega (arith, t.few_held, held_length p, size, here.low, here.ends, here.ordered);
             inside = here.inside;
           }
-
--- ---- the next paragraph of the list
-pub next_there : (s list : List ℕ) {n k : ℕ} {x : Paragraph} → Onward s list n k x → {a z m : ℕ} → x ≡ paragraph.At a z m → (k < n) × (m ≡ from s list (k + 1))
-next_there s list o ex = rw ex at o

@@ -1,4 +1,5 @@
 -- The turns of a loop that reads a note's paragraphs one after the other.
+use Rattle.std.specs.Prelude.{Option as Found, Some, None, Result, Ok, Err}
 use Prim.Native.Nat.{ℕ, ◌+◌, ◌-◌, ◌≤◌, ◌<◌, ◌^◌}
 use native.Mathlib.Omega.{arith}
 use mathlib.Core.Path.{◌≡◌, refl, sym, ap, ◌∙◌, subst}
@@ -16,9 +17,8 @@ use Rattle.row.specs.Reading.{definitions_from}
 use Rattle.joined.specs.Reading.{joined}
 use Rattle.joined.proofs.Few.{few_joined}
 use Rattle.walk.specs.declared.Paragraph.{Paragraph}
-use Rattle.walk.specs.declared.Paragraph.TheVariants as paragraph
-use Rattle.walk.specs.Reading.{paragraphs_from}
-use Rattle.walk.specs.Promise.{FirstParagraph, IsParagraph}
+use Rattle.walk.specs.Reading.{paragraphs_from, from}
+use Rattle.walk.specs.Promise.{FirstParagraph, IsParagraph, Remembers}
 use Rattle.walk.proofs.Whole.{all_paragraphs}
 use Rattle.span.specs.declared.Span.{Span}
 use Rattle.span.specs.Row.{numbers, filled}
@@ -28,10 +28,8 @@ use Rattle.most.specs.Most.{ends, held, ends_of, held_of}
 use Rattle.inline.specs.Reading.{grammar}
 use Rattle.inline.specs.ReadingRows.{span_row}
 use Rattle.note.specs.Reading.{labels, rows_in, span_rows, deep_in, first_deep}
-use Rattle.note.proofs.Bracket.{first_deep_bracket}
-use Rattle.paragraph.specs.declared.Tally.{Tally}
-use Rattle.paragraph.specs.declared.Tally.TheVariants.{Deep, Spans}
-use Rattle.paragraph.specs.Tally.{number_of, tally_of}
+use Rattle.paragraph.specs.declared.Deep.{Deep}
+use Rattle.paragraph.specs.Tally.{number_of, value_of, in_note, tally_of}
 use Rattle.tail.specs.Ending.{labels_in}
 use Rattle.step.specs.Reading.{rows_for}
 use Rattle.step.specs.Promise.{first}
@@ -42,13 +40,22 @@ use Rattle.paragraphs.specs.Spans.{Defined, NoteMarked}
 use Rattle.paragraphs.proofs.Filling.{store_all, filled_numbers, numbers_for}
 
 -- ---- which of the two answers it was
-pub was_spans : (o : Option ℕ) (v : Walk) {w : Walk} → tally_of o v ≡ Spans w → (o ≡ none) × (v ≡ w)
+pub was_spans : (o : Option ℕ) (v : Walk) {w : Walk} → tally_of o v ≡ Ok w → (o ≡ none) × (v ≡ w)
 was_spans none v e = (refl, cc)
-was_spans (some p) v e = let z : ◌≡◌ {A = ℕ} 0 1 = cc in let no : ⊥ = omega arith in absurd no
+was_spans (some p) v e = cc
 
-pub was_deep : (o : Option ℕ) (v : Walk) {p : ℕ} → tally_of o v ≡ Deep p → o ≡ some p
-was_deep none v e = let z : ◌≡◌ {A = ℕ} 0 1 = cc in let no : ⊥ = omega arith in absurd no
-was_deep (some q) v e = cc
+pub was_deep : (o : Option ℕ) (v : Walk) {p : ℕ} → tally_of o v ≡ Err (record { place = p }) → o ≡ some p
+was_deep none v e = cc
+was_deep (some q) v {p} e = let q' : q ≡ p = ap (λ (r : Result Walk Deep). value_of r) e in ap some q'
+
+-- and of the places in a paragraph
+none_in : (a : ℕ) (o : Option ℕ) → in_note a o ≡ none → o ≡ none
+none_in a none e = refl
+none_in a (some q) e = cc
+
+some_in : (a : ℕ) (o : Option ℕ) {place : ℕ} → in_note a o ≡ some place → (q : ℕ) × (o ≡ some q) × (place ≡ a + q)
+some_in a none e = cc
+some_in a (some q) e = (q, refl, cc)
 
 -- reading stands at place `at`; the walk w has passed as many spans as its row says, and the table u₀ has become u
 pub record Going (T : Texts) (u₀ u : List ℕ) (at : ℕ) (w : Walk) : Type 0 where
@@ -87,10 +94,9 @@ module _ (T : Texts) (u₀ : List ℕ) where
     still_same_size u' e = e ∙ same_size
 
     -- no paragraph is left
-    pub all_passed : {x : Paragraph} → IsParagraph T.note at x → x ≡ paragraph.End → NoteMarked T u₀ (Spans w) u
+    pub all_passed : paragraphs_from T.note at ≡ [] → NoteMarked T u₀ (Ok w) u
     unfolding rows_in deep_in
-    all_passed q e =
-        let none_left : paragraphs_from T.note at ≡ [] = rw e at q in
+    all_passed none_left =
         let rows : span_rows T ≡ map (numbers T.note) g.passed = g.rows_are ∙ rw none_left (append-nil (map (numbers T.note) g.passed)) in
         let never : first_deep T ≡ none = g.deep_is ∙ rw none_left refl in
         let count : w.row ≡ length (span_rows T) = g.counted ∙ sym (ap length rows ∙ length-map g.passed (numbers T.note)) in
@@ -103,13 +109,7 @@ module _ (T : Texts) (u₀ : List ℕ) where
           deep = λ z. let no : ⊥ = omega arith in absurd no;
         }
 
-    module _ {x : Paragraph} (q : IsParagraph T.note at x) {a e n : ℕ} (ex : x ≡ paragraph.At a e n) where
-      here : FirstParagraph T.note at a e n
-      here = rw ex at q
-
-      pub less : length T.note - n < length T.note - at
-      less = omega (arith, here.onward, here.inside)
-
+    module _ {a e n : ℕ} (here : FirstParagraph T.note at a e n) where
       line_before : Before T.note w.line a
       line_before = later g.line here.low (omega (arith, here.ordered, here.ends, here.inside))
 
@@ -123,7 +123,7 @@ module _ (T : Texts) (u₀ : List ℕ) where
         line = line_before;
       }
 
-      module _ {t : List ℕ} {count : ℕ} (d : Defined T t count) {r : Tally} {u' : List ℕ}
+      module _ {t : List ℕ} {count : ℕ} (d : Defined T t count) {r : Result Walk Deep} {u' : List ℕ}
           (m : Reads T.note a (bytes_of T.note (range a e)) (labels_in T t count) (definitions_from t 0 count) w.row u r u') where
         abbrev p : List ℕ
         p = bytes_of T.note (range a e)
@@ -144,18 +144,19 @@ module _ (T : Texts) (u₀ : List ℕ) where
         unfolding held_of
         held_first = rw here.first refl
 
-        first_too_many : {place : ℕ} → r ≡ Deep place → first_deep T ≡ some (a + place)
+        deep_here : {q : ℕ} → over depth_limit (grammar p (labels T)) ≡ some q → deep_in (labels T) (paragraphs_from T.note at) ≡ some (a + q)
         unfolding deep_in labels
-        first_too_many {place} er =
-            let o : over depth_limit (grammar p (labels T)) ≡ some place = was_deep (over depth_limit (grammar p (labels T))) read.walk (sym read.answer ∙ er) in
-            g.deep_is ∙ rw (here.first, o) refl
+        deep_here o = rw (here.first, o) refl
 
-        pub place_within : {place : ℕ} → r ≡ Deep place → a + place < 2 ^ 64
-        place_within {place} er = omega (arith, d.short, (first_deep_bracket T (a + place) (first_too_many er)).0)
+        first_too_many : {place : ℕ} → r ≡ Err (record { place = place }) → first_deep T ≡ some place
+        unfolding labels
+        first_too_many er =
+            let (q, o, e) = some_in a (over depth_limit (grammar p (labels T))) (was_deep (in_note a (over depth_limit (grammar p (labels T)))) read.walk (sym read.answer ∙ er)) in
+            g.deep_is ∙ deep_here o ∙ ap some (sym e)
 
-        pub too_deep : {place : ℕ} → r ≡ Deep place → NoteMarked T u₀ (Deep (a + place)) u'
+        pub too_deep : {place : ℕ} → r ≡ Err (record { place = place }) → NoteMarked T u₀ (Err (record { place = place })) u'
         too_deep {place} er =
-            let f : first_deep T ≡ some (a + place) = first_too_many er in
+            let f : first_deep T ≡ some place = first_too_many er in
             record {
               walk = read.walk;
               answer = rw f refl;
@@ -165,10 +166,11 @@ module _ (T : Texts) (u₀ : List ℕ) where
               deep = λ z. omega (arith, read.deep (ap number_of er), held_first, g.few_held);
             }
 
-        pub further : {w' : Walk} → r ≡ Spans w' → Going T u₀ u' n w'
+        pub further : {w' : Walk} → r ≡ Ok w' → Going T u₀ u' n w'
         unfolding rows_in deep_in labels
         further {w'} er =
-            let (o, j) = was_spans (over depth_limit (grammar p (labels T))) read.walk (sym read.answer ∙ er) in
+            let (n', j) = was_spans (in_note a (over depth_limit (grammar p (labels T)))) read.walk (sym read.answer ∙ er) in
+            let o = none_in a (over depth_limit (grammar p (labels T))) n' in
             let c : w'.row ≡ w.row + length (spans (grammar p (labels T))) = sym (ap (λ (x : Walk). x.row) j) ∙ read.row (ap number_of er) in
             let ls = labels T in
             let ds = definitions_of (joined T) in

@@ -1,9 +1,9 @@
 -- The spans of all paragraphs, counted and stored.
-use Rattle.std.specs.Prelude.{ℕ, ◌≤◌, ◌<◌, ◌≡◌, List, length}
+use Rattle.std.specs.Prelude.{ℕ, ◌≤◌, ◌<◌, ◌≡◌, List, length, Result}
 use Rattle.text.specs.Utf8.{note_limit}
 use Rattle.texts.specs.Texts.{Texts}
 use Rattle.rows.specs.Rows
-use Rattle.row.specs.Reading.{Fit, listed_from}
+use Rattle.row.specs.Reading.{listed_from}
 use Rattle.joined.specs.Reading.{joined}
 use Rattle.span.specs.Row as span_table
 use Rattle.definition.specs.Reading.{paragraphs}
@@ -11,7 +11,7 @@ use Rattle.most.specs.Most.{ends_of, held_of}
 use Rattle.note.specs.Note.{depth_limit}
 use Rattle.note.specs.Reading.{span_rows, first_deep}
 use Rattle.step.specs.declared.Walk.{Walk}
-use Rattle.paragraph.specs.declared.Tally.{Tally}
+use Rattle.paragraph.specs.declared.Deep.{Deep}
 use Rattle.paragraph.specs.Tally as tally
 
 -- the rows one after the other
@@ -26,12 +26,11 @@ spans_filled = Rows.filled span_table.width (λ row. row)
 pub record Defined (T : Texts) (t : List ℕ) (count : ℕ) : Type 0 where
   pub short : length T.note ≤ note_limit
   pub short_sheet : length T.sheet ≤ note_limit
-  pub fit : Fit T t count
   pub counted : count ≡ length (joined T)
   pub rows_are : listed_from t 0 count ≡ joined T
 
 -- the place of the first bracket too many, or the number of spans, and then the table u has become u'
-pub record NoteMarked (T : Texts) (u : List ℕ) (r : Tally) (u' : List ℕ) : Type 0 where
+pub record NoteMarked (T : Texts) (u : List ℕ) (r : Result Walk Deep) (u' : List ℕ) : Type 0 where
   pub walk : Walk
   pub answer : r ≡ tally.tally_of (first_deep T) walk
   pub counted : tally.number_of r ≡ 0 → walk.row ≡ length (span_rows T)

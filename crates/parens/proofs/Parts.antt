@@ -8,13 +8,13 @@ use mathlib.Core.List.{List, [], ◌∷◌}
 use mathlib.Core.Bool.{Bool, true, false, true≢false, not, ◌&&◌, ◌||◌}
 use borrow.Author.Tests.{ne_eqb, not-false}
 use lib.ListN.{length, get_or, drop, take, set, length-drop, length-set}
-use lib.Seq.{take_all, get_or-drop, drop-drop, get_or-set_same, get_or-set_other}
+use lib.Seq.{take_all, get_or-take, get_or-drop, drop-drop, get_or-set_same, get_or-set_other}
 use lib.Dec.{eqb}
 use Rattle.scan.proofs.Test.{by, neither}
 use Rattle.scan.specs.Byte.{blank}
 use Rattle.scan.proofs.Scan.{at_cons}
 use Rattle.target.specs.Reading.{unspaced, space_from, space_run}
-use Rattle.parens.specs.Unclosed.{slashed, unclosed_at, mark_of, Marks, Prepared}
+use Rattle.parens.specs.Unclosed.{slashed, unclosed_at, Marks, Prepared}
 
 -- ---- a place after a byte that is no backslash
 pub unslashed : (s : List ℕ) (i : ℕ) → (get_or s i 0 ≡ 92 → ⊥) → slashed s (i + 1) ≡ false
@@ -34,7 +34,7 @@ module _ (p : List ℕ) (k : ℕ) (e : slashed p k ≡ false) where
       rw (slashed_drop i, slashed_drop (suc i), get_or-drop, drop-drop, a)
 
   -- the marks of the part are those of the whole from place k on
-  pub part_prepared : {m : List ℕ} → k ≤ length p → Prepared p k m → Prepared (drop k p) 0 (drop k m)
+  pub part_prepared : {m : List Bool} → k ≤ length p → Prepared p k m → Prepared (drop k p) 0 (drop k m)
   part_prepared {m} h t =
       let z : k + length (drop k p) ≡ length p = rw length-drop (omega arith) in
       record {
@@ -42,7 +42,7 @@ module _ (p : List ℕ) (k : ℕ) (e : slashed p k ≡ false) where
         made = λ e. record { marked = λ i l x. rw (get_or-drop, unclosed_drop i) ((t.made (rw (get_or-drop, z) at e)).marked (k + i) (omega arith) (omega (arith, length-drop k p))) };
       }
 
-  pub whole_prepared : {m : List ℕ} → k ≤ length p → Prepared (drop k p) 0 (drop k m) → Prepared p k m
+  pub whole_prepared : {m : List Bool} → k ≤ length p → Prepared (drop k p) 0 (drop k m) → Prepared p k m
   whole_prepared {m} h t =
       let z : k + length (drop k p) ≡ length p = rw length-drop (omega arith) in
       let w = rw (length-drop, length-drop) at t.wide in
@@ -51,10 +51,10 @@ module _ (p : List ℕ) (k : ℕ) (e : slashed p k ≡ false) where
         made = λ e. record { marked = λ i l x. at_place i (i - k) (omega arith) x (t.made (rw (get_or-drop, z) e)) };
       }
     where
-      at_place : (i j : ℕ) → k + j ≡ i → i < length p → Marks (drop k p) 0 (drop k m) → get_or m i 0 ≡ mark_of (unclosed_at p i)
+      at_place : (i j : ℕ) → k + j ≡ i → i < length p → Marks (drop k p) 0 (drop k m) → get_or m i false ≡ unclosed_at p i
       at_place i j q x g = rw (← q) (rw (get_or-drop, unclosed_drop j) at (g.marked j (omega arith) (omega (arith, length-drop k p))))
 
-pub later : {s m : List ℕ} {k j : ℕ} → k ≤ j → Prepared s k m → Prepared s j m
+pub later : {s : List ℕ} {m : List Bool} {k j : ℕ} → k ≤ j → Prepared s k m → Prepared s j m
 later h t = record { wide = t.wide; made = λ e. record { marked = λ i l x. (t.made e).marked i (omega arith) x } }
 
 -- ---- past space
@@ -86,21 +86,25 @@ space_unslashed s k e = past_space s (drop k s) k false refl e
 pub after_parenthesis : (s : List ℕ) → get_or s 0 0 ≡ 40 → slashed s (1 + space_run (drop 1 s)) ≡ false
 after_parenthesis s e = space_unslashed s 1 (unslashed s 0 (λ q. omega arith))
 
--- ---- the byte that tells whether the table is made
-pub still_marks : (s m : List ℕ) → Marks s 0 m → Marks s 0 (set m (length s) 1)
-still_marks s m t = record { marked = λ i z l. get_or-set_other m (length s) i 1 0 (λ q. omega arith) ∙ t.marked i z l }
+-- ---- the mark that tells whether the table is made
+pub still_marks : (s : List ℕ) (m : List Bool) → Marks s 0 m → Marks s 0 (set m (length s) true)
+still_marks s m t = record { marked = λ i z l. get_or-set_other m (length s) i true false (λ q. omega arith) ∙ t.marked i z l }
 
-pub told : (s m : List ℕ) → length s < length m → Marks s 0 m → Prepared s 0 (set m (length s) 1)
+-- the marks without it
+pub own_marks : (s : List ℕ) (m : List Bool) → Marks s 0 m → Marks s 0 (take (length s) m)
+own_marks s m t = record { marked = λ i z l. get_or-take (length s) m i false l ∙ t.marked i z l }
+
+pub told : (s : List ℕ) (m : List Bool) → length s < length m → Marks s 0 m → Prepared s 0 (set m (length s) true)
 told s m h t = record { wide = simp length-set h; made = λ e. still_marks s m t }
 
 -- for those who keep a table from one text to the next: it is to be made anew
-pub unmade : (s m : List ℕ) → length s < length m → Prepared s 0 (set m (length s) 0)
+pub unmade : (s : List ℕ) (m : List Bool) → length s < length m → Prepared s 0 (set m (length s) false)
 unmade s m h =
     record {
       wide = simp length-set h;
-      made = λ e. let no : ⊥ = omega (arith, get_or-set_same m (length s) 0 0 h) in absurd no;
+      made = λ e. absurd (true≢false (sym e ∙ get_or-set_same m (length s) false false h));
     }
 
 -- ---- a slice from place k on
-pub part_whole : (l : List ℕ) (k : ℕ) → take (length l - k) (drop k l) ≡ drop k l
+pub part_whole : {A : Type 0} (l : List A) (k : ℕ) → take (length l - k) (drop k l) ≡ drop k l
 part_whole l k = take_all (length l - k) (drop k l) (omega (arith, length-drop k l))

@@ -1,27 +1,28 @@
 -- The run's state, and a destination that is given up at an opening parenthesis that nothing closes.
+use Rattle.std.specs.Prelude.{None, Option}
 use Prim.Native.Nat.{ℕ, suc, ◌+◌, ◌-◌, ◌≤◌, ◌<◌}
 use native.Mathlib.Nat.{add-zero}
 use native.Mathlib.Numerals.{add-one}
 use native.Mathlib.Omega.{arith}
 use mathlib.Core.Path.{◌≡◌, refl, sym, ap, ◌∙◌}
-use mathlib.Core.List.{List}
+use mathlib.Core.List.{List, [], ◌∷◌}
 use mathlib.Core.Bool.{Bool, true, false, cond, not, ◌&&◌}
 use borrow.Author.Tests.{ne_eqb, eqb-true}
-use lib.ListN.{length, get_or, drop}
+use lib.ListN.{length, get_or, drop, length-drop}
 use lib.Seq.{get_or-drop}
 use lib.Dec.{eqb}
 use Rattle.scan.proofs.Test.{by, and_left, and_right}
 use Rattle.scan.specs.Byte.{punctuation, escapes}
-use Rattle.scan.specs.Reading.{bare}
+use Rattle.scan.specs.Reading.{bare, scan}
 use Rattle.scan.proofs.Scan.{at_cons, stops, goes, ends}
-use Rattle.target.specs.Reading.{depth_after, halts, raw_from, raw_run, judged, destination_of}
+use Rattle.target.specs.Reading.{depth_after, halts, raw_from, raw_run, step_to, run_from, run_to, judged, destination_of}
 use Rattle.target.proofs.Turns.{halted, passed, deeper}
 use Rattle.target.specs.declared.Run.{Run}
 use Rattle.target.specs.declared.Part.{Part}
-use Rattle.target.specs.declared.Part.TheVariants.{Nothing}
-use Rattle.parens.specs.Unclosed.{odd_after, slashed, closers, unclosed_at, mark_of, Prepared}
+use Rattle.parens.specs.Unclosed.{odd_after, slashed, closers, unclosed_at, Marks}
 use Rattle.parens.proofs.Slashes.{bare_with, inked, inside_next}
 use Rattle.parens.proofs.LeftOpen.{state, left_open}
+use Rattle.parens.proofs.Parts.{opened}
 
 -- the state that the definition reaches at place i, where an escape is told by the backslashes before it
 pub record Reached (s : List ℕ) (at i : ℕ) (inside : Bool) (depth : ℕ) : Type 0 where
@@ -68,12 +69,7 @@ module _ (s : List ℕ) (at i : ℕ) (inside : Bool) (depth : ℕ) (r : Reached 
   pub ends_here : length s ≤ i → judged at (record { end = i; depth = depth }) ≡ judged at (raw_run (drop at s) at)
   ends_here h = ap (judged at) (ends _ _ s i r.run h refl)
 
-pub marks_one : (u : Bool) → mark_of u ≡ 1 → u ≡ true
-unfolding mark_of
-marks_one true e = refl
-marks_one false e = let no : ⊥ = omega arith in absurd no
-
-left : (at e d : ℕ) → 0 < d → Nothing ≡ judged at (record { end = e; depth = d })
+left : (at e d : ℕ) → 0 < d → None ≡ judged at (record { end = e; depth = d })
 unfolding judged
 left at e d h = by (eqb e at) (λ k. simp k) (λ k. simp (k, ne_eqb d 0 (λ z. omega arith)))
 
@@ -87,7 +83,7 @@ deepens d b inside e k = rw (k, e) (by_inside inside)
 
 -- at an opening parenthesis that nothing closes
 open_here : (s : List ℕ) (at i : ℕ) (inside : Bool) (depth : ℕ) → unclosed_at s i ≡ true → Reached s at i inside depth → i < length s
-    → halts depth (get_or s i 0) inside ≡ false → Nothing ≡ judged at (raw_run (drop at s) at)
+    → halts depth (get_or s i 0) inside ≡ false → None ≡ judged at (raw_run (drop at s) at)
 open_here s at i inside depth u r h g =
     let o : bare 40 (get_or s i 0) (slashed s i) ≡ true = and_left _ _ u in
     let b : get_or s i 0 ≡ 40 = eqb-true (get_or s i 0) 40 (and_right (not (slashed s i)) _ o) in
@@ -99,18 +95,35 @@ open_here s at i inside depth u r h g =
     (stays_open s at (i + 1) (not inside && escapes (drop i s)) (depth + 1)
     (on s at i inside depth r h g refl (sym (deepens depth (get_or s i 0) inside b k))) f)
 
-pub given_up : (s m : List ℕ) (at i : ℕ) (inside : Bool) (depth : ℕ) → Prepared s 0 m → Reached s at i inside depth → i < length s → halts depth (get_or s i 0) inside ≡ false
-    → {u v : ℕ} → u ≡ get_or m (length s) 0 → (eqb u 1 && eqb (get_or s i 0) 40) ≡ true → v ≡ get_or m i 0 → v ≡ 1 → judged at (record { end = i; depth = 1 }) ≡ judged at (raw_run (drop at s) at)
-given_up s m at i inside depth t r h g {u} {v} eu e ev e1 =
-    let made = t.made (sym eu ∙ eqb-true u 1 (and_left (eqb u 1) (eqb (get_or s i 0) 40) e)) in
-    sym (left at i 1 (omega arith)) ∙ open_here s at i inside depth (marks_one (unclosed_at s i) (sym (made.marked i (omega arith) h) ∙ sym ev ∙ e1)) r h g
+-- ---- the run that is given up at a mark is judged as the whole one
+module _ (s : List ℕ) (m : List Bool) (at : ℕ) (t : Marks s 0 m) where
+  given_up : (i : ℕ) (inside : Bool) (depth : ℕ) → Reached s at i inside depth → i < length s → halts depth (get_or s i 0) inside ≡ false → get_or m i false ≡ true
+      → judged at (record { end = i; depth = 1 }) ≡ judged at (raw_run (drop at s) at)
+  given_up i inside depth r h g e = sym (left at i 1 (omega arith)) ∙ open_here s at i inside depth (sym (t.marked i (omega arith) h) ∙ e) r h g
+
+  from_here : (l : List ℕ) (i : ℕ) (inside : Bool) (depth : ℕ) → l ≡ drop i s → Reached s at i inside depth → judged at (run_from m l (state i inside depth)) ≡ judged at (raw_run (drop at s) at)
+  unfolding scan step_to
+  from_here [] i inside depth w r = ends_here s at i inside depth r (omega (arith, ap length w, length-drop i s))
+  from_here (b ∷ l) i inside depth w r =
+      let (eb, el) = opened s b l i w in
+      let h : i < length s = omega (arith, ap length w, length-drop i s) in
+      by (halts depth b inside)
+      (λ g. simp g (halts_here s at i inside depth r h (rw eb at g)))
+      (λ g. by (get_or m i false && eqb b 40)
+      (λ k. simp (g, k) (given_up i inside depth r h (rw eb at g) (and_left (get_or m i false) (eqb b 40) k)))
+      (λ k. simp (g, k) (from_here l (i + 1) (not inside && escapes (b ∷ l)) (depth_after depth b inside) el
+      (on s at i inside depth r h (rw eb at g) (ap escapes w) (ap (λ (n : ℕ). depth_after depth n inside) eb)))))
+
+  pub to_mark : slashed s at ≡ false → judged at (run_to m (drop at s) at) ≡ judged at (raw_run (drop at s) at)
+  unfolding run_to
+  to_mark e = from_here (drop at s) at false 0 refl (begins s at e)
 
 -- a destination that does not start with `<`
-pub unangled : (s : List ℕ) (at : ℕ) {b : ℕ} {p : Part} → b ≡ get_or s at 0 → (b ≡ 60 → ⊥) → p ≡ judged at (raw_run (drop at s) at) → p ≡ destination_of (drop at s) at
+pub unangled : (s : List ℕ) (at : ℕ) {b : ℕ} {p : Option Part} → b ≡ get_or s at 0 → (b ≡ 60 → ⊥) → p ≡ judged at (raw_run (drop at s) at) → p ≡ destination_of (drop at s) at
 unfolding destination_of
 unangled s at {b} eb n q = simp (get_or-drop, add-zero, ← eb, ne_eqb b 60 n, q)
 
 -- a run that leaves a parenthesis open
 pub left_over : (s : List ℕ) (at : ℕ) {b : ℕ} (r : Run) → b ≡ get_or s at 0 → (b ≡ 60 → ⊥) → judged at r ≡ judged at (raw_run (drop at s) at) → (r.depth ≡ 0 → ⊥)
-    → Nothing ≡ destination_of (drop at s) at
+    → None ≡ destination_of (drop at s) at
 left_over s at r eb n q d = unangled s at eb n (left at r.end r.depth (omega arith) ∙ q)

@@ -1,5 +1,5 @@
 -- Opening parentheses that nothing closes before the next byte that ends every destination.
-use Rattle.std.specs.Prelude.{ℕ, zero, suc, ◌+◌, ◌-◌, ◌≤◌, ◌<◌, ◌≡◌, List, [], ◌∷◌, Bool, false, cond, not, ◌&&◌, ◌||◌, length, get_or, drop, eqb}
+use Rattle.std.specs.Prelude.{ℕ, zero, suc, ◌+◌, ◌-◌, ◌≤◌, ◌<◌, ◌≡◌, List, [], ◌∷◌, Bool, true, false, cond, not, ◌&&◌, ◌||◌, length, get_or, drop, eqb}
 use Rattle.scan.specs.Reading.{bare}
 use Rattle.target.specs.Target.{control}
 
@@ -31,14 +31,11 @@ unclosed c b odd = bare 40 b odd && eqb c 0
 abbrev pub unclosed_at : List ℕ → ℕ → Bool
 unclosed_at s i = unclosed (closers (slashed s (suc i)) (drop (suc i) s)) (get_or s i 0) (slashed s i)
 
-unfoldable pub mark_of : Bool → ℕ
-mark_of u = cond u 1 0
+-- from place k on the table m tells of each byte of s whether it stands at such a place
+pub record Marks (s : List ℕ) (k : ℕ) (m : List Bool) : Type 0 where
+  pub marked : (i : ℕ) → k ≤ i → i < length s → get_or m i false ≡ unclosed_at s i
 
--- from place k on the table m has a byte for each byte of s: 1 at these places, 0 at the others
-pub record Marks (s : List ℕ) (k : ℕ) (m : List ℕ) : Type 0 where
-  pub marked : (i : ℕ) → k ≤ i → i < length s → get_or m i 0 ≡ mark_of (unclosed_at s i)
-
--- The table has room for one byte more, which tells whether it is made: the marks of s from place k on, or still to be made.
-pub record Prepared (s : List ℕ) (k : ℕ) (m : List ℕ) : Type 0 where
+-- The table has room for one mark more, which tells whether it is made: the marks of s from place k on, or still to be made.
+pub record Prepared (s : List ℕ) (k : ℕ) (m : List Bool) : Type 0 where
   pub wide : length s < length m
-  pub made : get_or m (length s) 0 ≡ 1 → Marks s k m
+  pub made : get_or m (length s) false ≡ true → Marks s k m

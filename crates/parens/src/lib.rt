@@ -4,7 +4,7 @@
 
 ghost use Rattle.std.specs.Prelude.{◌≡◌, false, ◌&&◌, ◌+◌, ◌≤◌, ◌<◌, ◌^◌, length, get_or, drop};
 ghost use Rattle.target.specs.Reading.{raw_run, judged, destination_of};
-ghost use Rattle.parens.specs.Unclosed.{slashed, parenthesis, closers_before, unclosed, mark_of, Marks, Prepared};
+ghost use Rattle.parens.specs.Unclosed.{slashed, parenthesis, closers_before, Marks, Prepared};
 
 use target::{Part, Run};
 
@@ -13,10 +13,8 @@ fn odd_before(s: &[u8], i: usize) -> bool
     requires { i ≤ length s.now }
     ensures { result ≡ slashed s.now i }
 {
-    let mut k = i;
     let mut odd = false;
-    while 0 < k {
-        k -= 1;
+    for k in (0..i).rev() {
         if s[k] != 92 {
             return odd;
         }
@@ -37,6 +35,7 @@ fn escaped(s: &[u8], i: usize, b: u8) -> bool
 }
 
 // Closing parentheses from `b` on that have nothing to close, where there are `c` after it.
+#[tactic(auto, unfolding(crate::specs::Unclosed::closers_before))]
 fn closers_before(c: usize, b: u8, odd: bool) -> usize
     requires { c + 1 < 2 ^ 64 }
     ensures { result ≡ closers_before c b odd }
@@ -48,85 +47,57 @@ fn closers_before(c: usize, b: u8, odd: bool) -> usize
         return c + 1;
     }
     if !odd & (b == 40) {
-        if c == 0 {
-            return 0;
-        }
-        return c - 1;
+        return c.saturating_sub(1);
     }
     c
 }
 
-// What stands in the table for `b`.
-fn mark(c: usize, b: u8, odd: bool) -> u8
-    ensures { result ≡ mark_of (unclosed c b odd) }
-{
-    if !odd & (b == 40) & (c == 0) {
-        return 1;
-    }
-    0
-}
-
 // Marks each opening parenthesis of `s` that nothing closes before the next byte that ends every destination.
-fn open_marks(s: &[u8], marks: &mut [u8])
+fn open_marks(s: &[u8], marks: &mut [bool])
     requires { length s.now ≤ length marks.old }
     ensures { Marks s.now 0 marks.new }
 {
-    let mut i = s.len();
     let mut c: usize = 0;
-    while 0 < i {
-        i -= 1;
+    for i in (0..s.len()).rev() {
         let b = s[i];
         let odd = escaped(s, i, b);
-        marks[i] = mark(c, b, odd);
+        marks[i] = !odd & (b == 40) & (c == 0);
         c = closers_before(c, b, odd);
     }
 }
 
-// Makes the table, if it is still to be made.
-fn prepare(s: &[u8], marks: &mut [u8])
+// Makes the table, if it is still to be made. The mark past the text's own tells that: the table of a text from a place on is then a part of
+// the table from there on, where a flag of its own would have to be passed beside it.
+fn prepare(s: &[u8], marks: &mut [bool])
     requires { Prepared s.now 0 marks.old }
     ensures marks { Marks s.now 0 marks.new }
     ensures prepared { Prepared s.now 0 marks.new }
 {
     let n = s.len();
-    if marks[n] == 1 {
+    if marks[n] {
         return;
     }
     open_marks(s, marks);
-    marks[n] = 1;
+    marks[n] = true;
 }
 
 // The longest run that a destination without angle brackets can be, from `at` on, if all parentheses in it are closed. Where one is not
 // and has a mark, the run is given up there.
-fn run_to_mark(s: &[u8], at: usize, marks: &[u8]) -> Run
+fn run_to_mark(s: &[u8], at: usize, marks: &[bool]) -> Run
     requires at_value { slashed s.now at ≡ false }
     requires prepared { Prepared s.now 0 marks.now }
     ensures { judged at result ≡ judged at (raw_run (drop at s.now) at) }
 {
-    let made = scan::peek(marks, s.len()) == 1;
-    let mut i = at;
-    let mut inside = false;
-    let mut depth: usize = 0;
-    while i < s.len() {
-        let b = s[i];
-        if (b < 33) | (b == 127) | (!inside & (b == 41) & (depth == 0)) {
-            return Run { end: i, depth };
-        }
-        if made & (b == 40) {
-            if scan::peek(marks, i) == 1 {
-                return Run { end: i, depth: 1 };
-            }
-        }
-        depth = target::depth_after(depth, b, inside);
-        inside = !inside & scan::escape_at(s, i);
-        i += 1;
+    let n = s.len();
+    if marks[n] {
+        return target::raw_run(s, at, &marks[..n]);
     }
-    Run { end: i, depth }
+    target::raw_run(s, at, &[])
 }
 
 // The link destination that starts at `at`, before which no backslash stands. The table is made once a destination has left a parenthesis
 // open: where there is none such, nothing is paid for it.
-pub fn destination(s: &[u8], at: usize, marks: &mut [u8]) -> Part
+pub fn destination(s: &[u8], at: usize, marks: &mut [bool]) -> Option<Part>
     requires at_value { slashed s.now at ≡ false }
     requires prepared { Prepared s.now 0 marks.old }
     ensures value { result ≡ destination_of (drop at s.now) at }
@@ -138,7 +109,7 @@ pub fn destination(s: &[u8], at: usize, marks: &mut [u8]) -> Part
     let run = run_to_mark(s, at, marks);
     if run.depth != 0 {
         prepare(s, marks);
-        return Part::Nothing;
+        return None;
     }
     target::raw_part(at, run)
 }

@@ -8,6 +8,10 @@ use mathlib.Core.Bool.{Bool, true, false, not, ◌&&◌}
 use borrow.Author.Tests.{ltb-true, leb-true, eqb-false, not-true}
 use lib.ListN.{length, get_or}
 use lib.Dec.{leb, ltb, eqb}
+use Rattle.std.specs.declared.cmp.Ordering.{Ordering}
+use Rattle.std.specs.declared.cmp.Ordering.TheVariants.{Less, Equal, Greater}
+use Rattle.std.specs.Ordering.{nat_cmp}
+use Rattle.std.proofs.lemmas.Cmp.{ranked}
 use Rattle.scan.specs.Byte.{blank}
 use Rattle.scan.specs.Reading.{past}
 use Rattle.scan.proofs.Test.{and_left, and_right}
@@ -103,10 +107,11 @@ module _ (a b : List ℕ) {n : ℕ} (c : SameCount last_ascii a b 0 0 n) where
         let g = form_plain b n (rw (← ey) (and_right (plain last_ascii x) _ plains)) in
         sym order_passed ∙ rw (f, g, ← ex, ← ey) refl
 
-    -- k and l are those bytes folded
-    module _ {k l : ℕ} (ek : k ≡ lower x) (el : l ≡ lower y) where
-      pub order_below : k < l → 0 ≡ order (compared a) (compared b)
-      order_below h = sym (by_heads ∙ head_less (lower x) (lower y) _ _ (omega arith))
-
-      pub order_above : l ≤ k → 2 ≡ order (compared a) (compared b)
-      order_above h = let n = differs in sym (by_heads ∙ head_greater (lower x) (lower y) _ _ (omega arith))
+    -- k and l are those bytes folded, and o is what comparing them gives
+    pub order_bytes : {k l : ℕ} → k ≡ lower x → l ≡ lower y → {o : Ordering} → o ≡ nat_cmp k l → o ≡ order (compared a) (compared b)
+    order_bytes {k} {l} ek el {o} e = by_heads_at o (e ∙ rw (ek, el) refl)
+      where
+        by_heads_at : (o : Ordering) → o ≡ nat_cmp (lower x) (lower y) → o ≡ order (compared a) (compared b)
+        by_heads_at Less e = sym (by_heads ∙ head_less (lower x) (lower y) _ _ (ranked (lower x) (lower y) Less e))
+        by_heads_at Equal e = absurd (differs (ranked (lower x) (lower y) Equal e))
+        by_heads_at Greater e = sym (by_heads ∙ head_greater (lower x) (lower y) _ _ (ranked (lower x) (lower y) Greater e))

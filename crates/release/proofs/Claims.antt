@@ -1,4 +1,5 @@
 -- What the release setting changes, and what it leaves as it is.
+use Rattle.std.specs.Prelude.{None, Option as Place, Some, Ok, Err}
 use Prim.Native.Nat.{ℕ, ◌≤◌}
 use native.Mathlib.Omega.{arith}
 use mathlib.Core.Path.{◌≡◌, refl, sym, ap, ◌∙◌, subst}
@@ -9,12 +10,9 @@ use mathlib.Core.Bool.{true, false, true≢false}
 use lib.ListN.{length}
 use lib.Dec.{ltb}
 use Rattle.scan.proofs.Test.{by}
-use Rattle.scan.specs.declared.Found.{Found}
-use Rattle.scan.specs.declared.Found.TheVariants.{At, Nothing}
-use Rattle.texts.specs.declared.Checked.{Checked}
-use Rattle.texts.specs.declared.Checked.TheVariants as texts
+use Rattle.texts.specs.declared.Fault.TheVariants as texts
 use Rattle.texts.specs.Texts.{Texts}
-use Rattle.texts.specs.Reading.{check_of}
+use Rattle.texts.specs.Reading.{Checked, check_of}
 use Rattle.row.specs.Row.{Listed}
 use Rattle.block.specs.Block.{Placed}
 use Rattle.joined.specs.Joined.{JoinedIs}
@@ -27,8 +25,8 @@ use Rattle.conflict.proofs.Conflicts.{no_conflict_iff}
 use Rattle.note.specs.Reading.{span_rows, first_deep}
 use Rattle.page.specs.Reading.{page_of}
 use Rattle.paragraphs.specs.Spans.{spans_filled}
-use Rattle.notice.specs.declared.Reading.{Reading}
-use Rattle.notice.specs.declared.Reading.TheVariants.{FewDefinitions}
+use Rattle.notice.specs.Answers.{Reading}
+use Rattle.notice.specs.declared.Refusal.TheVariants.{FewDefinitions}
 use Rattle.notice.specs.Answers as reader
 use Rattle.notice.specs.Reading.{bad_or, conflict_or, few_or, with_spans, without_conflicts, reading_of}
 use Rattle.notice.proofs.Answers.{passes}
@@ -50,25 +48,24 @@ small_definitions : (d : ℕ) (o : Option ℕ) (n lent k : ℕ) → reader.numbe
 small_definitions d o n lent k = by (ltb lent d) (λ e. rw e (omega arith)) (λ e. rw e (small_spans d o n k))
 
 small_checked : (c : Checked) (r : Reading) → reader.number_of r ≤ 6 → reader.number_of (bad_or c r) ≤ 6
-small_checked texts.Good r h = h
-small_checked (texts.Long x n) r h = omega arith
-small_checked (texts.Bad x k) r h = omega arith
+small_checked (Ok done) r h = h
+small_checked (Err (texts.Long x n)) r h = omega arith
+small_checked (Err (texts.Bad x k)) r h = omega arith
 
 -- ---- the answer is refusal 9, or another
 abbrev NineOr : Reading → Reading → Type 0
 NineOr x y = (reader.number_of x ≡ 9) ⊎ (x ≡ y)
 
 nine_checked : (c : Checked) {x y : Reading} → NineOr x y → NineOr (bad_or c x) (bad_or c y)
-nine_checked texts.Good h = h
-nine_checked (texts.Long x n) h = inr refl
-nine_checked (texts.Bad x k) h = inr refl
+nine_checked (Ok done) h = h
+nine_checked (Err f) h = inr refl
 
 nine_counted : (lent needed : ℕ) {x y : Reading} → NineOr x y → NineOr (few_or lent needed FewDefinitions x) (few_or lent needed FewDefinitions y)
 nine_counted lent needed h = by (ltb lent needed) (λ e. rw e (inr refl)) (λ e. rw e h)
 
-nine_found : (f : Found) (r : Reading) → NineOr (conflict_or true f r) r
-nine_found (At k) r = inl refl
-nine_found Nothing r = inr refl
+nine_found : (f : Place ℕ) (r : Reading) → NineOr (conflict_or true f r) r
+nine_found (Some k) r = inl refl
+nine_found None r = inr refl
 
 nine_rendered : (need room : ℕ) {x y : Reading} → NineOr x y
     → (writer.number_of (after_reading need room x) ≡ 9) ⊎ (after_reading need room x ≡ after_reading need room y)
@@ -119,7 +116,7 @@ module _ (T : Texts) where
   with_yes = record { reading = yes_reading; rendering = yes_rendering }
 
   -- ---- no conflict
-  module _ (e : first_conflict T ≡ Nothing) where
+  module _ (e : first_conflict T ≡ None) where
     same_reading : (d n : ℕ) → reading_of true T d n ≡ reading_of false T d n
     unfolding reading_of
     same_reading d n = rw e refl

@@ -8,7 +8,7 @@ use Rattle.joined.specs.Joined.{JoinedIs}
 use Rattle.conflict.specs.Conflict.{label_bytes, destination_bytes, title_bytes, HasTitle, entry}
 use Rattle.notice.specs.Answers as reader
 use Rattle.notice.specs.Reading as reader_readings
-use Rattle.rendering.specs.declared.Rendering.{Rendering}
+use Rattle.rendering.specs.Answers.{Rendering}
 use Rattle.rendering.specs.Answers as writer
 use Rattle.rendering.specs.Reading as writer_readings
 use Rattle.release.specs.Old as old

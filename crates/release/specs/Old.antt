@@ -8,9 +8,9 @@ use Rattle.joined.specs.Reading.{joined}
 use Rattle.note.specs.Reading.{span_rows, first_deep}
 use Rattle.page.specs.Reading.{page_of}
 use Rattle.paragraphs.specs.Spans.{spans_filled}
-use Rattle.notice.specs.declared.Reading.{Reading}
+use Rattle.notice.specs.Answers.{Reading}
 use Rattle.notice.specs.Reading.{bad_or, without_conflicts}
-use Rattle.rendering.specs.declared.Rendering.{Rendering}
+use Rattle.rendering.specs.Answers.{Rendering}
 use Rattle.rendering.specs.Reading.{after_reading}
 
 -- "The first that applies, in order 1 to 6, is the answer"

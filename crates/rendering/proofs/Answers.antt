@@ -11,12 +11,11 @@ use Rattle.scan.proofs.Test.{by}
 use Rattle.texts.specs.Texts.{Texts}
 use Rattle.page.specs.Reading.{page_of}
 use Rattle.page.proofs.Page.{page_iff}
-use Rattle.notice.specs.declared.Reading.{Reading}
+use Rattle.notice.specs.Answers.{Reading}
 use Rattle.notice.specs.Answers as reader
 use Rattle.notice.specs.Reading.{reading_of, definition_table_of, span_table_of}
 use Rattle.notice.proofs.Answers as reader_answers
-use Rattle.rendering.specs.declared.Rendering.{Rendering}
-use Rattle.rendering.specs.Answers.{number_of, value_of, named_of, definition_count, span_count, page_length, PageMeasured, Answers, long, bad, few_definitions, conflicting, deep, few_spans, short_page, rendered}
+use Rattle.rendering.specs.Answers.{Rendering, number_of, value_of, named_of, definition_count, span_count, page_length, PageMeasured, Answers, long, bad, few_definitions, conflicting, deep, few_spans, short_page, rendered}
 use Rattle.rendering.specs.Reading.{after_reading, rendering_of, page_buffer_of}
 use Rattle.rendering.specs.Promise.{answer_to, Promise}
 

@@ -7,13 +7,12 @@ use lib.ListN.{length}
 use Rattle.refusal.specs.Given.{Given, GivenFor}
 use Rattle.texts.specs.Texts.{Texts}
 use Rattle.page.specs.Reading.{page_of}
-use Rattle.notice.specs.declared.Reading.{Reading}
+use Rattle.notice.specs.Answers.{Reading}
 use Rattle.notice.specs.Answers.{DefinitionsCounted, SpansCounted}
 use Rattle.notice.specs.Answers as reader
 use Rattle.notice.specs.Reading.{reading_of}
 use Rattle.notice.proofs.Demand1 as reader_answers
-use Rattle.rendering.specs.declared.Rendering.{Rendering}
-use Rattle.rendering.specs.Answers.{number_of, value_of, named_of, definition_count, span_count, page_length, PageMeasured, Due0, Due6, Answers, long, bad, few_definitions, conflicting, deep, few_spans, short_page, rendered}
+use Rattle.rendering.specs.Answers.{Rendering, number_of, value_of, named_of, definition_count, span_count, page_length, PageMeasured, Due0, Due6, Answers, long, bad, few_definitions, conflicting, deep, few_spans, short_page, rendered}
 use Rattle.rendering.specs.Reading.{after_reading, rendering_of}
 use Rattle.rendering.specs.Claims.{Demand1}
 use Rattle.rendering.proofs.Alike.{same_number, same_value, same_named, was_refused}

@@ -17,14 +17,13 @@ use Rattle.page.specs.ByRows.{ByRows}
 use Rattle.page.specs.Reading.{page_of}
 use Rattle.page.proofs.Page.{page_iff}
 use Rattle.page.proofs.ByRows.{page_by_rows}
-use Rattle.notice.specs.declared.Reading.{Reading}
+use Rattle.notice.specs.Answers.{Reading}
 use Rattle.notice.specs.Answers as reader
 use Rattle.notice.specs.Reading.{reading_of, definition_table_of, span_table_of}
 use Rattle.notice.specs.Promise.{Promise as ReaderPromise}
 use Rattle.notice.specs.Claims.{DefinitionRows, SpanRows}
 use Rattle.notice.proofs.Promise as reader_promise
-use Rattle.rendering.specs.declared.Rendering.{Rendering}
-use Rattle.rendering.specs.Answers.{number_of, value_of, named_of, definition_count, span_count, page_length}
+use Rattle.rendering.specs.Answers.{Rendering, number_of, value_of, named_of, definition_count, span_count, page_length}
 use Rattle.rendering.specs.Reading.{after_reading, page_buffer_of}
 use Rattle.rendering.specs.Promise.{Promise}
 use Rattle.rendering.specs.Claims.{Demand1, PageHolds, Buffers, Same, ReadsAlike}

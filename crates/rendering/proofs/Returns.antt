@@ -3,8 +3,10 @@ use Prim.Native.Nat.{ℕ, ◌≤◌}
 use native.Mathlib.Omega.{arith}
 use mathlib.Core.Path.{◌≡◌, refl, sym, ap, ◌∙◌, subst}
 use mathlib.Core.List.{List}
-use mathlib.Core.Bool.{Bool}
+use mathlib.Core.Bool.{Bool, false}
+use borrow.Author.Tests.{ne_eqb}
 use lib.ListN.{length}
+use lib.Dec.{eqb}
 use Rattle.texts.specs.Texts.{Texts}
 use Rattle.texts.specs.Answers.{GoodTexts}
 use Rattle.row.specs.Row as definition_table
@@ -15,8 +17,10 @@ use Rattle.note.specs.Reading.{span_rows}
 use Rattle.note.proofs.EachRow.{each_row_iff}
 use Rattle.page.specs.Reading.{page_of}
 use Rattle.cursor.specs.Spanned.{Spanned}
-use Rattle.notice.specs.declared.Reading.{Reading}
-use Rattle.notice.specs.declared.Reading.TheVariants as reader_variants
+use Rattle.notice.specs.Answers.{Reading}
+use Rattle.std.specs.Prelude.{Ok, Err, IsErrAnd}
+use Rattle.notice.specs.declared.Counts.{Counts}
+use Rattle.notice.specs.declared.Refusal.{Refusal}
 use Rattle.notice.specs.Answers as reader
 use Rattle.notice.specs.Reading.{definition_table_of, span_table_of}
 use Rattle.notice.specs.Promise.{Promise as ReaderPromise}
@@ -24,12 +28,11 @@ use Rattle.notice.specs.Claims.{SpanRows}
 use Rattle.notice.proofs.Answers.{definitions_number, spans_number}
 use Rattle.notice.proofs.Promise as reader_promise
 use Rattle.notice.proofs.Standing.{rows_stand}
-use Rattle.rendering.specs.declared.Rendering.{Rendering}
-use Rattle.rendering.specs.declared.Rendering.TheVariants.{Long, Bad, FewDefinitions, Conflicting, Deep, FewSpans}
-use Rattle.rendering.specs.Answers.{number_of}
+use Rattle.rendering.specs.declared.Refusal.TheVariants.{Unread}
+use Rattle.rendering.specs.Answers.{Rendering, number_of}
 use Rattle.rendering.specs.Reading.{with_page, after_reading, page_buffer_of}
 use Rattle.rendering.specs.Promise.{Promise}
-use Rattle.rendering.proofs.Alike.{same_definitions, same_spans}
+use Rattle.rendering.proofs.Alike.{refusal_low, same_definitions, same_spans}
 use Rattle.rendering.proofs.Answers.{by_reader, promised}
 
 -- a table that holds the note's span rows is one to write the page from
@@ -57,33 +60,21 @@ module _ (p : List ℕ) {release : Bool} {T : Texts} {t u : List ℕ} {T' : Text
       q
       m.texts
 
-  -- ---- it has refused
-  pub too_long : {y n : ℕ} → x ≡ reader_variants.Long y n → Promise release T t u p (Long y n) T' t' u' p
-  too_long e = kept (ap (after_reading need (length p)) e) refl
-
-  pub not_good : {y k : ℕ} → x ≡ reader_variants.Bad y k → Promise release T t u p (Bad y k) T' t' u' p
-  not_good e = kept (ap (after_reading need (length p)) e) refl
-
-  pub too_few_definitions : {n : ℕ} → x ≡ reader_variants.FewDefinitions n → Promise release T t u p (FewDefinitions n) T' t' u' p
-  too_few_definitions e = kept (ap (after_reading need (length p)) e) refl
-
-  pub conflict_found : {n : ℕ} → x ≡ reader_variants.Conflicting n → Promise release T t u p (Conflicting n) T' t' u' p
-  conflict_found e = kept (ap (after_reading need (length p)) e) refl
-
-  pub too_deep : {k : ℕ} → x ≡ reader_variants.Deep k → Promise release T t u p (Deep k) T' t' u' p
-  too_deep e = kept (ap (after_reading need (length p)) e) refl
-
-  pub too_few_spans : {n : ℕ} → x ≡ reader_variants.FewSpans n → Promise release T t u p (FewSpans n) T' t' u' p
-  too_few_spans e = kept (ap (after_reading need (length p)) e) refl
+  -- it has refused, and the refusal is handed on as y
+  pub refused : {r : Refusal} → x ≡ Err r → (y : Rendering) → IsErrAnd y (λ d. d ≡ Unread r) → Promise release T t u p y T' t' u' p
+  refused e (Ok w) h = absurd h
+  refused {r} e (Err d) h =
+      let other : eqb (reader.refusal_number r) 0 ≡ false = ne_eqb (reader.refusal_number r) 0 (λ z. omega (arith, refusal_low r)) in
+      rw h (kept (ap (after_reading need (length p)) e) (sym (rw other refl)))
 
   -- ---- it has read the note
-  module _ {d n : ℕ} (e : x ≡ reader_variants.Read d n) where
-    pub spanned : Spanned T u' n
+  module _ {c : Counts} (e : x ≡ Ok c) where
+    pub spanned : Spanned T u' c.spans
     spanned =
         let q = reader_promise.demand_1 m in
         let z : reader.number_of x ≡ 0 = ap reader.number_of e in
         let tables = reader_promise.tables_hold m in
-        let count : length (span_rows T) ≡ n = spans_number T (q.spans_counted z) ∙ ap reader.span_count e in
+        let count : length (span_rows T) ≡ c.spans = spans_number T (q.spans_counted z) ∙ ap reader.span_count e in
         subst (Spanned T u') count (filled_spanned T u (q.success.exactly.0 z).0 (tables.success z).1 tables.spans_size)
 
     -- the definition table holds the joined list
@@ -99,5 +90,5 @@ module _ (p : List ℕ) {release : Bool} {T : Texts} {t u : List ℕ} {T' : Text
         }
 
     -- and the page is measured, and written if it fits
-    pub page_done : {r : Rendering} {p' : List ℕ} → r ≡ with_page need (length p) d n → p' ≡ page_buffer_of T r p → Promise release T t u p r T' t' u' p'
+    pub page_done : {r : Rendering} {p' : List ℕ} → r ≡ with_page need (length p) c → p' ≡ page_buffer_of T r p → Promise release T t u p r T' t' u' p'
     page_done f q = kept (ap (after_reading need (length p)) e ∙ sym f) q

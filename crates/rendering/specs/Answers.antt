@@ -1,79 +1,66 @@
 -- Which answer the page writer gives to a note and the sheet beside it, for a release or not, where so many whole definition rows and span rows and so many bytes of a page buffer are lent. Document 01, "Refusal numbers", and document 02, requests 1 and 8.
-use Rattle.std.specs.Prelude.{ℕ, ◌≡◌, List, Bool, length}
+use Rattle.std.specs.Prelude.{ℕ, ◌≡◌, List, Bool, length, Result, Ok, Err}
 use Rattle.text.specs.Utf8.{FirstBad}
 use Rattle.texts.specs.Texts.{Texts, text_of}
 use Rattle.texts.specs.Answers.{Due1, Due2}
 use Rattle.note.specs.Note.{FirstDeep}
 use Rattle.page.specs.Page.{PageIs}
-use Rattle.notice.specs.Answers.{Fewer, Enough, ConflictRow, Due3, Due4, Due5, Due9}
+use Rattle.notice.specs.declared.Counts.{Counts}
+use Rattle.notice.specs.declared.Refusal.TheVariants.{Long, Bad, FewDefinitions, Conflicting, Deep, FewSpans}
+use Rattle.notice.specs.Answers.{counts, Fewer, Enough, ConflictRow, Due3, Due4, Due5, Due9}
 use Rattle.notice.specs.Answers as reader
-use Rattle.rendering.specs.declared.Rendering.{Rendering}
-use Rattle.rendering.specs.declared.Rendering.TheVariants.{Rendered, Long, Bad, FewDefinitions, Conflicting, Deep, FewSpans, ShortPage}
+use Rattle.rendering.specs.declared.Rendered.{Rendered}
+use Rattle.rendering.specs.declared.Refusal.{Refusal}
+use Rattle.rendering.specs.declared.Refusal.TheVariants.{Unread, ShortPage}
 
 -- ---- document 01's numbers of an answer
--- "Success is number 0", and the refusals of the page writer
+-- the counts of definitions and spans and the HTML's length, or a refusal
+abbrev pub Rendering : Type 0
+Rendering = Result Rendered Refusal
+
+abbrev pub written : Counts → ℕ → Rendered
+written c w = record { counts = c; bytes = w }
+
+-- the refusals of the page writer: the reader's, and 6
+abbrev pub refusal_number : Refusal → ℕ
+refusal_number (Unread r) = reader.refusal_number r
+refusal_number (ShortPage n) = 6
+
+-- "Success is number 0"
 abbrev pub number_of : Rendering → ℕ
-number_of (Rendered d n w) = 0
-number_of (Long x n) = 1
-number_of (Bad x k) = 2
-number_of (FewDefinitions n) = 3
-number_of (Conflicting n) = 9
-number_of (Deep k) = 4
-number_of (FewSpans n) = 5
-number_of (ShortPage n) = 6
+number_of (Ok w) = 0
+number_of (Err r) = refusal_number r
 
 -- "Returned with it"
+abbrev pub refusal_value : Refusal → ℕ
+refusal_value (Unread r) = reader.refusal_value r
+refusal_value (ShortPage n) = n
+
 abbrev pub value_of : Rendering → ℕ
-value_of (Rendered d n w) = 0
-value_of (Long x n) = n
-value_of (Bad x k) = k
-value_of (FewDefinitions n) = n
-value_of (Conflicting n) = n
-value_of (Deep k) = k
-value_of (FewSpans n) = n
-value_of (ShortPage n) = n
+value_of (Ok w) = 0
+value_of (Err r) = refusal_value r
 
 -- "with the counts of definitions and spans, from the page writer also the HTML's length"
 abbrev pub definition_count : Rendering → ℕ
-definition_count (Rendered d n w) = d
-definition_count (Long x n) = 0
-definition_count (Bad x k) = 0
-definition_count (FewDefinitions n) = 0
-definition_count (Conflicting n) = 0
-definition_count (Deep k) = 0
-definition_count (FewSpans n) = 0
-definition_count (ShortPage n) = 0
+definition_count (Ok w) = w.counts.definitions
+definition_count (Err r) = 0
 
 abbrev pub span_count : Rendering → ℕ
-span_count (Rendered d n w) = n
-span_count (Long x n) = 0
-span_count (Bad x k) = 0
-span_count (FewDefinitions n) = 0
-span_count (Conflicting n) = 0
-span_count (Deep k) = 0
-span_count (FewSpans n) = 0
-span_count (ShortPage n) = 0
+span_count (Ok w) = w.counts.spans
+span_count (Err r) = 0
 
 abbrev pub page_length : Rendering → ℕ
-page_length (Rendered d n w) = w
-page_length (Long x n) = 0
-page_length (Bad x k) = 0
-page_length (FewDefinitions n) = 0
-page_length (Conflicting n) = 0
-page_length (Deep k) = 0
-page_length (FewSpans n) = 0
-page_length (ShortPage n) = 0
+page_length (Ok w) = w.bytes
+page_length (Err r) = 0
 
 -- "say which text, 0 the note, 1 the sheet; an answer about neither says 0"
+abbrev pub refusal_text : Refusal → ℕ
+refusal_text (Unread r) = reader.refusal_text r
+refusal_text (ShortPage n) = 0
+
 abbrev pub named_of : Rendering → ℕ
-named_of (Rendered d n w) = 0
-named_of (Long x n) = x
-named_of (Bad x k) = x
-named_of (FewDefinitions n) = 0
-named_of (Conflicting n) = 0
-named_of (Deep k) = 0
-named_of (FewSpans n) = 0
-named_of (ShortPage n) = 0
+named_of (Ok w) = 0
+named_of (Err r) = refusal_text r
 
 -- ---- which answer
 -- the HTML is so many bytes long
@@ -95,18 +82,18 @@ module _ (release : Bool) (T : Texts) (definition_rows rows_of_spans room : ℕ)
   -- the answer, with what is "Returned with it"
   pub data Answers : Rendering → Type 0 where
     -- "its length"
-    long : {x : ℕ} → Due1 T x → Answers (Long x (length (text_of T x)))
+    long : {x : ℕ} → Due1 T x → Answers (Err (Unread (Long x (length (text_of T x)))))
     -- "where reading from the start first meets no good character"
-    bad : {x place : ℕ} → Due2 T x → FirstBad (text_of T x) place → Answers (Bad x place)
+    bad : {x place : ℕ} → Due2 T x → FirstBad (text_of T x) place → Answers (Err (Unread (Bad x place)))
     -- "rows needed"
-    few_definitions : (due : Due3 release T definition_rows rows_of_spans) → Answers (FewDefinitions due.1.needed)
+    few_definitions : (due : Due3 release T definition_rows rows_of_spans) → Answers (Err (Unread (FewDefinitions due.1.needed)))
     -- "the row number, from 1"
-    conflicting : {row : ℕ} → Due9 release T definition_rows rows_of_spans → ConflictRow T row → Answers (Conflicting row)
+    conflicting : {row : ℕ} → Due9 release T definition_rows rows_of_spans → ConflictRow T row → Answers (Err (Unread (Conflicting row)))
     -- "place of the first bracket too many"
-    deep : {place : ℕ} → Due4 release T definition_rows rows_of_spans → FirstDeep T place → Answers (Deep place)
+    deep : {place : ℕ} → Due4 release T definition_rows rows_of_spans → FirstDeep T place → Answers (Err (Unread (Deep place)))
     -- "rows needed"
-    few_spans : (due : Due5 release T definition_rows rows_of_spans) → Answers (FewSpans due.4.needed)
+    few_spans : (due : Due5 release T definition_rows rows_of_spans) → Answers (Err (Unread (FewSpans due.4.needed)))
     -- "bytes needed"
-    short_page : (due : Due6) → Answers (ShortPage due.1.needed)
+    short_page : (due : Due6) → Answers (Err (ShortPage due.1.needed))
     -- "with the counts of definitions and spans, from the page writer also the HTML's length"
-    rendered : (due : Due0) → Answers (Rendered due.0.1.needed due.0.4.needed due.1.needed)
+    rendered : (due : Due0) → Answers (Ok (written (counts due.0.1.needed due.0.4.needed) due.1.needed))

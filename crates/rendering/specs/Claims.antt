@@ -7,12 +7,11 @@ use Rattle.texts.specs.Answers.{Due1, Due2}
 use Rattle.note.specs.Note.{FirstDeep}
 use Rattle.page.specs.Page.{PageIs}
 use Rattle.page.specs.ByRows.{ByRows}
-use Rattle.notice.specs.declared.Reading.{Reading}
+use Rattle.notice.specs.Answers.{Reading}
 use Rattle.notice.specs.Answers.{DefinitionsCounted, SpansCounted, ConflictRow, Due3, Due4, Due5, Due9}
 use Rattle.notice.specs.Answers as reader
 use Rattle.notice.specs.Claims.{DefinitionRows, SpanRows}
-use Rattle.rendering.specs.declared.Rendering.{Rendering}
-use Rattle.rendering.specs.Answers.{number_of, value_of, named_of, definition_count, span_count, page_length, PageMeasured, Due0, Due6, Answers}
+use Rattle.rendering.specs.Answers.{Rendering, number_of, value_of, named_of, definition_count, span_count, page_length, PageMeasured, Due0, Due6, Answers}
 
 -- Demand 1 of the answer r to the texts T, for a release or not, where so many whole rows of each table and so many bytes are lent.
 pub record Demand1 (release : Bool) (T : Texts) (definition_rows rows_of_spans room : ℕ) (r : Rendering) : Type 0 where

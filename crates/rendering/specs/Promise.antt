@@ -4,8 +4,7 @@ use Rattle.texts.specs.Texts.{Texts}
 use Rattle.row.specs.Row as definition_table
 use Rattle.span.specs.Row as span_table
 use Rattle.notice.specs.Reading.{definition_table_of, span_table_of}
-use Rattle.rendering.specs.declared.Rendering.{Rendering}
-use Rattle.rendering.specs.Answers.{number_of, value_of, named_of, definition_count, span_count, page_length}
+use Rattle.rendering.specs.Answers.{Rendering, number_of, value_of, named_of, definition_count, span_count, page_length}
 use Rattle.rendering.specs.Reading.{rendering_of, page_buffer_of}
 
 -- the answer, for a release or not, to the texts T with the definition table t, the span table u and the page buffer p

@@ -1,28 +1,22 @@
 -- The page writer's answer and the page buffer at exit, as they are computed.
-use Rattle.std.specs.Prelude.{ℕ, List, ◌++◌, Bool, cond, length, drop, eqb, ltb}
+use Rattle.std.specs.Prelude.{ℕ, List, ◌++◌, Bool, cond, length, drop, eqb, ltb, Ok, Err}
 use Rattle.texts.specs.Texts.{Texts}
 use Rattle.page.specs.Reading.{page_of}
-use Rattle.notice.specs.declared.Reading.{Reading}
-use Rattle.notice.specs.declared.Reading.TheVariants as reader
+use Rattle.notice.specs.declared.Counts.{Counts}
+use Rattle.notice.specs.Answers.{Reading}
 use Rattle.notice.specs.Reading.{reading_of}
-use Rattle.rendering.specs.declared.Rendering.{Rendering}
-use Rattle.rendering.specs.declared.Rendering.TheVariants.{Rendered, Long, Bad, FewDefinitions, Conflicting, Deep, FewSpans, ShortPage}
-use Rattle.rendering.specs.Answers.{number_of}
+use Rattle.rendering.specs.declared.Refusal.TheVariants.{Unread, ShortPage}
+use Rattle.rendering.specs.Answers.{Rendering, written, number_of}
 
 -- ---- the answer
 -- a refusal of the reader; or what is said where it read so many definitions and spans
-abbrev pub read_or : (ℕ → ℕ → Rendering) → Reading → Rendering
-read_or f (reader.Read d n) = f d n
-read_or f (reader.Long x n) = Long x n
-read_or f (reader.Bad x k) = Bad x k
-read_or f (reader.FewDefinitions n) = FewDefinitions n
-read_or f (reader.Conflicting n) = Conflicting n
-read_or f (reader.Deep k) = Deep k
-read_or f (reader.FewSpans n) = FewSpans n
+abbrev pub read_or : (Counts → Rendering) → Reading → Rendering
+read_or f (Ok c) = f c
+read_or f (Err r) = Err (Unread r)
 
 -- where the HTML needs so many bytes, and the page buffer has so much room
-abbrev pub with_page : ℕ → ℕ → ℕ → ℕ → Rendering
-with_page need room d n = cond (ltb room need) (ShortPage need) (Rendered d n need)
+abbrev pub with_page : ℕ → ℕ → Counts → Rendering
+with_page need room c = cond (ltb room need) (Err (ShortPage need)) (Ok (written c need))
 
 -- the page writer's answer by the reader's
 abbrev pub after_reading : ℕ → ℕ → Reading → Rendering

@@ -1,5 +1,5 @@
 -- The whole example of document 01, the empty note, an image, a sheet and a release, by computation: answers, tables and pages.
-use Rattle.std.specs.Prelude.{ℕ, ◌≡◌, refl, Bool, true, false, length, replicate}
+use Rattle.std.specs.Prelude.{ℕ, ◌≡◌, refl, Bool, true, false, length, replicate, Ok, Err}
 use mathlib.Core.List.{List, [], ◌∷◌, ◌++◌, map, flat_map}
 use Rattle.scan.specs.Ascii.{ascii}
 use Rattle.line.specs.Line.{feeds, line_of}
@@ -31,9 +31,10 @@ use Rattle.code.specs.Reading.{margin}
 use Rattle.html.specs.Reading.{title_attribute, link_open, image_open, image_close}
 use Rattle.page.specs.Reading.{first_row, tagged, written_by, content_from, paragraph_page, page_by, page_of}
 use Rattle.notice.specs.Reading.{reading_of, definition_table_of, span_table_of}
-use Rattle.rendering.specs.declared.Rendering.{Rendering}
-use Rattle.rendering.specs.declared.Rendering.TheVariants.{Rendered, Bad, FewDefinitions, Conflicting, FewSpans, ShortPage}
-use Rattle.rendering.specs.Answers.{number_of}
+use Rattle.notice.specs.declared.Refusal.TheVariants.{Bad, FewDefinitions, Conflicting, FewSpans}
+use Rattle.notice.specs.Answers.{counts}
+use Rattle.rendering.specs.declared.Refusal.TheVariants.{Unread, ShortPage}
+use Rattle.rendering.specs.Answers.{Rendering, written, number_of}
 use Rattle.rendering.specs.Reading.{rendering_of, page_buffer_of}
 
 -- the setting, the texts and what is lent; the answer, and what then stands in the tables and the page buffer
@@ -88,28 +89,28 @@ titled = 0 ∷ 1 ∷ 2 ∷ 5 ∷ 6 ∷ 0 ∷ 0 ∷ 1 ∷ 0 ∷ 8 ∷ 9 ∷ 12 �
 abbrev pub samples : List Sample
 samples =
     -- exactly as much as is needed; one byte less; one byte more
-    sample example 8 11 51 (Rendered 1 1 51) definition_row span_row html
-    ∷ sample example 8 11 50 (ShortPage 51) definition_row span_row (old 50)
-    ∷ sample example 9 12 52 (Rendered 1 1 51) (definition_row ++ 9 ∷ []) (span_row ++ 9 ∷ []) (html ++ 9 ∷ [])
+    sample example 8 11 51 (Ok (written (counts 1 1) 51)) definition_row span_row html
+    ∷ sample example 8 11 50 (Err (ShortPage 51)) definition_row span_row (old 50)
+    ∷ sample example 9 12 52 (Ok (written (counts 1 1) 51)) (definition_row ++ 9 ∷ []) (span_row ++ 9 ∷ []) (html ++ 9 ∷ [])
     -- refusals 3 and 5 come before 6
-    ∷ sample example 7 10 0 (FewDefinitions 1) (old 7) (old 10) []
-    ∷ sample example 8 10 0 (FewSpans 1) definition_row (old 10) []
-    ∷ sample example 8 11 0 (ShortPage 51) definition_row span_row []
+    ∷ sample example 7 10 0 (Err (Unread (FewDefinitions 1))) (old 7) (old 10) []
+    ∷ sample example 8 10 0 (Err (Unread (FewSpans 1))) definition_row (old 10) []
+    ∷ sample example 8 11 0 (Err (ShortPage 51)) definition_row span_row []
     -- the empty note with an empty page
-    ∷ sample [] 0 0 0 (Rendered 0 0 0) [] [] []
-    ∷ sample [] 1 1 1 (Rendered 0 0 0) (old 1) (old 1) (old 1)
+    ∷ sample [] 0 0 0 (Ok (written (counts 0 0) 0)) [] [] []
+    ∷ sample [] 1 1 1 (Ok (written (counts 0 0) 0)) (old 1) (old 1) (old 1)
     -- an image
-    ∷ sample (ascii "![a](b)") 0 11 31 (Rendered 0 1 31) [] (6 ∷ 0 ∷ 7 ∷ 2 ∷ 3 ∷ 0 ∷ 5 ∷ 6 ∷ 0 ∷ 0 ∷ 1 ∷ []) (ascii "<p><img src=\"b\" alt=\"a\" /></p>\n")
+    ∷ sample (ascii "![a](b)") 0 11 31 (Ok (written (counts 0 1) 31)) [] (6 ∷ 0 ∷ 7 ∷ 2 ∷ 3 ∷ 0 ∷ 5 ∷ 6 ∷ 0 ∷ 0 ∷ 1 ∷ []) (ascii "<p><img src=\"b\" alt=\"a\" /></p>\n")
     -- with the definition in the sheet: the same page
-    ∷ beside (texts (ascii "Use [max].") (ascii "[max]: /q2/max \"June\"")) 8 11 51 (Rendered 1 1 51) (1 ∷ 1 ∷ 4 ∷ 7 ∷ 14 ∷ 16 ∷ 20 ∷ 1 ∷ [])
+    ∷ beside (texts (ascii "Use [max].") (ascii "[max]: /q2/max \"June\"")) 8 11 51 (Ok (written (counts 1 1) 51)) (1 ∷ 1 ∷ 4 ∷ 7 ∷ 14 ∷ 16 ∷ 20 ∷ 1 ∷ [])
     (5 ∷ 4 ∷ 9 ∷ 5 ∷ 8 ∷ 1 ∷ 7 ∷ 14 ∷ 16 ∷ 20 ∷ 1 ∷ []) html
     -- the sheet refused
-    ∷ beside (texts (ascii "a") (13 ∷ [])) 0 0 0 (Bad 1 0) [] [] []
+    ∷ beside (texts (ascii "a") (13 ∷ [])) 0 0 0 (Err (Unread (Bad 1 0))) [] [] []
     -- for a release, one label with and without a title: "definition table filled, span table and page unchanged"; and not for a release
-    ∷ given true (texts (ascii "[a]: b\n[a]: b ''\n\n`c`") []) 16 11 21 (Conflicting 2) titled (old 11) (old 21)
-    ∷ given false (texts (ascii "[a]: b\n[a]: b ''\n\n`c`") []) 16 11 22 (Rendered 2 1 22) titled (1 ∷ 18 ∷ 21 ∷ 19 ∷ 20 ∷ 0 ∷ 0 ∷ 0 ∷ 0 ∷ 0 ∷ 4 ∷ []) (ascii "<p><code>c</code></p>\n")
+    ∷ given true (texts (ascii "[a]: b\n[a]: b ''\n\n`c`") []) 16 11 21 (Err (Unread (Conflicting 2))) titled (old 11) (old 21)
+    ∷ given false (texts (ascii "[a]: b\n[a]: b ''\n\n`c`") []) 16 11 22 (Ok (written (counts 2 1) 22)) titled (1 ∷ 18 ∷ 21 ∷ 19 ∷ 20 ∷ 0 ∷ 0 ∷ 0 ∷ 0 ∷ 0 ∷ 4 ∷ []) (ascii "<p><code>c</code></p>\n")
     -- for a release too, an identical repeat
-    ∷ given true (texts (ascii "[a]: b\n\n[a]: b") []) 16 0 0 (Rendered 2 0 0) (0 ∷ 1 ∷ 2 ∷ 5 ∷ 6 ∷ 0 ∷ 0 ∷ 1 ∷ 0 ∷ 9 ∷ 10 ∷ 13 ∷ 14 ∷ 0 ∷ 0 ∷ 3 ∷ []) [] []
+    ∷ given true (texts (ascii "[a]: b\n\n[a]: b") []) 16 0 0 (Ok (written (counts 2 0) 0)) (0 ∷ 1 ∷ 2 ∷ 5 ∷ 6 ∷ 0 ∷ 0 ∷ 1 ∷ 0 ∷ 9 ∷ 10 ∷ 13 ∷ 14 ∷ 0 ∷ 0 ∷ 3 ∷ []) [] []
     ∷ []
 
 abbrev answer_to : Sample → Rendering

@@ -5,121 +5,67 @@ ghost use Rattle.std.specs.Prelude.{◌≡◌, length};
 ghost use Rattle.texts.specs.Texts.{texts};
 ghost use Rattle.joined.specs.Reading.{Listing};
 ghost use Rattle.page.specs.Reading.{page_of};
-ghost use Rattle.walk.specs.Promise.{Remembers};
 ghost use Rattle.cursor.specs.Spanned.{Spanned};
-ghost use Rattle.rendering.specs.Answers.{number_of, value_of, named_of, definition_count, span_count, page_length};
+ghost use Rattle.rendering.specs.declared.Refusal.TheVariants.{Unread};
+ghost use Rattle.rendering.specs.Answers.{refusal_number, refusal_value, refusal_text};
 ghost use Rattle.rendering.specs.Reading.{with_page, page_buffer_of};
 ghost use Rattle.rendering.specs.Promise.{Promise};
 
-use notice::Reading;
+use notice::{Counts, Listed};
+use walk::Paragraphs;
+use writer::Source;
 
-// What the page writer answers: the counts of definitions and spans and the HTML's length, or a refusal with its value; 1 and 2 with the text that they are
-// about before it.
+// The page writer's answer on success: the counts of definitions and spans, and how many bytes the HTML has.
 #[derive(Clone, Copy)]
-pub enum Rendering {
-    Rendered(usize, usize, usize),
-    Long(usize, usize),
-    Bad(usize, usize),
-    FewDefinitions(usize),
-    Conflicting(usize),
-    Deep(usize),
-    FewSpans(usize),
+pub struct Rendered {
+    pub counts: Counts,
+    pub bytes: usize,
+}
+
+// A refusal: the reader's, or too short a page with the bytes needed.
+#[derive(Clone, Copy)]
+pub enum Refusal {
+    Unread(notice::Refusal),
     ShortPage(usize),
 }
 
-// The answer's number.
-pub fn number(r: Rendering) -> u64
-    ensures { result ≡ number_of r }
-{
-    match r {
-        Rendering::Rendered(_, _, _) => 0,
-        Rendering::Long(_, _) => 1,
-        Rendering::Bad(_, _) => 2,
-        Rendering::FewDefinitions(_) => 3,
-        Rendering::Conflicting(_) => 9,
-        Rendering::Deep(_) => 4,
-        Rendering::FewSpans(_) => 5,
-        Rendering::ShortPage(_) => 6,
+impl Refusal {
+    // Document 01's number of the refusal.
+    pub fn number(self) -> u32
+        ensures { result ≡ refusal_number self }
+    {
+        match self {
+            Refusal::Unread(refusal) => refusal.number(),
+            Refusal::ShortPage(_) => 6,
+        }
+    }
+
+    // What is returned with it.
+    pub fn value(self) -> usize
+        ensures { result ≡ refusal_value self }
+    {
+        match self {
+            Refusal::Unread(refusal) => refusal.value(),
+            Refusal::ShortPage(bytes) => bytes,
+        }
+    }
+
+    // The text that it is about; 0 where it is about neither.
+    pub fn text(self) -> usize
+        ensures { result ≡ refusal_text self }
+    {
+        match self {
+            Refusal::Unread(refusal) => refusal.text(),
+            Refusal::ShortPage(_) => 0,
+        }
     }
 }
 
-// What is returned with the number.
-pub fn value(r: Rendering) -> u64
-    ensures { result ≡ value_of r }
-{
-    match r {
-        Rendering::Rendered(_, _, _) => 0,
-        Rendering::Long(_, length) => length as u64,
-        Rendering::Bad(_, place) => place as u64,
-        Rendering::FewDefinitions(rows) => rows as u64,
-        Rendering::Conflicting(row) => row as u64,
-        Rendering::Deep(place) => place as u64,
-        Rendering::FewSpans(rows) => rows as u64,
-        Rendering::ShortPage(bytes) => bytes as u64,
-    }
-}
+impl From<notice::Refusal> for Refusal {
+    ghost from_gives = { λ refusal r. r ≡ Unread refusal };
 
-// The text that the answer is about; 0 where it is about neither.
-pub fn text(r: Rendering) -> u64
-    ensures { result ≡ named_of r }
-{
-    match r {
-        Rendering::Rendered(_, _, _) => 0,
-        Rendering::Long(x, _) => x as u64,
-        Rendering::Bad(x, _) => x as u64,
-        Rendering::FewDefinitions(_) => 0,
-        Rendering::Conflicting(_) => 0,
-        Rendering::Deep(_) => 0,
-        Rendering::FewSpans(_) => 0,
-        Rendering::ShortPage(_) => 0,
-    }
-}
-
-// On success the number of definitions, else 0.
-pub fn definition_count(r: Rendering) -> u64
-    ensures { result ≡ definition_count r }
-{
-    match r {
-        Rendering::Rendered(definitions, _, _) => definitions as u64,
-        Rendering::Long(_, _) => 0,
-        Rendering::Bad(_, _) => 0,
-        Rendering::FewDefinitions(_) => 0,
-        Rendering::Conflicting(_) => 0,
-        Rendering::Deep(_) => 0,
-        Rendering::FewSpans(_) => 0,
-        Rendering::ShortPage(_) => 0,
-    }
-}
-
-// On success the number of spans, else 0.
-pub fn span_count(r: Rendering) -> u64
-    ensures { result ≡ span_count r }
-{
-    match r {
-        Rendering::Rendered(_, spans, _) => spans as u64,
-        Rendering::Long(_, _) => 0,
-        Rendering::Bad(_, _) => 0,
-        Rendering::FewDefinitions(_) => 0,
-        Rendering::Conflicting(_) => 0,
-        Rendering::Deep(_) => 0,
-        Rendering::FewSpans(_) => 0,
-        Rendering::ShortPage(_) => 0,
-    }
-}
-
-// On success the HTML's length, else 0.
-pub fn page_length(r: Rendering) -> u64
-    ensures { result ≡ page_length r }
-{
-    match r {
-        Rendering::Rendered(_, _, length) => length as u64,
-        Rendering::Long(_, _) => 0,
-        Rendering::Bad(_, _) => 0,
-        Rendering::FewDefinitions(_) => 0,
-        Rendering::Conflicting(_) => 0,
-        Rendering::Deep(_) => 0,
-        Rendering::FewSpans(_) => 0,
-        Rendering::ShortPage(_) => 0,
+    fn from(refusal: notice::Refusal) -> Refusal {
+        Refusal::Unread(refusal)
     }
 }
 
@@ -127,49 +73,34 @@ pub fn page_length(r: Rendering) -> u64
 fn render_rows<'a>(
     note: &'a [u8],
     sheet: &'a [u8],
-    definitions: &[u32],
-    spans: &[u32],
-    d: usize,
-    n: usize,
-    list: &[u16],
-    paragraphs: usize,
+    definitions: &'a [u32],
+    spans: &'a [u32],
+    counts: Counts,
+    paragraphs: &Paragraphs,
     page: &mut [u8],
-) -> Rendering
-    requires spanned { Spanned (texts note.now sheet.now) spans.now n }
+) -> Result<Rendered, Refusal>
+    requires spanned { Spanned (texts note.now sheet.now) spans.now counts.spans }
     requires listing { Listing (texts note.now sheet.now) definitions.now }
-    requires remembers { Remembers note.now list.now paragraphs }
-    ensures value { result ≡ with_page (length (page_of (texts note.now sheet.now))) (length page.old) d n }
+    requires same_note { paragraphs.now.note.now ≡ note.now }
+    ensures value { result ≡ with_page (length (page_of (texts note.now sheet.now))) (length page.old) counts }
     ensures page_after { page.new ≡ page_buffer_of (texts note.now sheet.now) result page.old }
 {
     let mut starts = [0u16; cursor::PLACES];
-    cursor::mark_starts(spans, n, &mut starts);
-    let none = &mut page[..0];
-    let need = writer::write_page(
+    cursor::mark_starts(spans, counts.spans, &mut starts);
+    let source = Source {
         note,
         sheet,
         definitions,
         spans,
-        n,
-        &starts,
-        list,
-        paragraphs,
-        none,
-    );
-    if page.len() < need {
-        return Rendering::ShortPage(need);
+        count: counts.spans,
+        starts: &starts,
+    };
+    let bytes = writer::write_page(&source, paragraphs, &mut []);
+    if page.len() < bytes {
+        return Err(Refusal::ShortPage(bytes));
     }
-    writer::write_page(
-        note,
-        sheet,
-        definitions,
-        spans,
-        n,
-        &starts,
-        list,
-        paragraphs,
-        page,
-    );
-    Rendering::Rendered(d, n, need)
+    writer::write_page(&source, paragraphs, page);
+    Ok(Rendered { counts, bytes })
 }
 
 // Writes a note's page, with the sheet beside it: fills the two tables and the page buffer that are lent, or refuses.
@@ -180,32 +111,22 @@ pub fn render<'a>(
     definitions: &mut [u32],
     spans: &mut [u32],
     page: &mut [u8],
-) -> Rendering
+) -> Result<Rendered, Refusal>
     ensures { Promise release (texts note.now sheet.now) definitions.old spans.old page.old result (texts note.exit.now sheet.exit.now) definitions.new spans.new page.new }
 {
     let mut list = [0u16; walk::LIST];
-    let read = notice::read_listed(note, sheet, release, definitions, spans, &mut list);
-    let paragraphs = read.paragraphs;
-    let reading = read.reading;
-    match reading {
-        Reading::Long(x, n) => Rendering::Long(x, n),
-        Reading::Bad(x, k) => Rendering::Bad(x, k),
-        Reading::FewDefinitions(n) => Rendering::FewDefinitions(n),
-        Reading::Conflicting(n) => Rendering::Conflicting(n),
-        Reading::Deep(k) => Rendering::Deep(k),
-        Reading::FewSpans(n) => Rendering::FewSpans(n),
-        Reading::Read(d, n) => {
-            render_rows(
-                note,
-                sheet,
-                definitions,
-                spans,
-                d,
-                n,
-                &list,
-                paragraphs,
-                page,
-            )
-        }
-    }
+    let Listed { counts, paragraphs } = notice::read_listed(
+        note,
+        sheet,
+        release,
+        definitions,
+        spans,
+        &mut list,
+    )?;
+    let paragraphs = Paragraphs {
+        note,
+        list: &list,
+        count: paragraphs,
+    };
+    render_rows(note, sheet, definitions, spans, counts, &paragraphs, page)
 }

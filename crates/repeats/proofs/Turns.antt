@@ -1,4 +1,5 @@
 -- A row that repeats a label is told by its key or by the lookup among all rows; and the least row that conflicts is the first definition that does.
+use Rattle.std.specs.Prelude.{None, Option, Some}
 use Prim.Native.Nat.{ℕ, zero, suc, ◌+◌, ◌-◌, ◌≤◌, ◌<◌}
 use native.Mathlib.Omega.{arith}
 use mathlib.Core.Path.{◌≡◌, refl, sym, ◌∙◌}
@@ -9,8 +10,6 @@ use borrow.Author.Tests.{eqb-false, not-true}
 use lib.Dec.{eqb}
 use lib.ListN.{length, get_or}
 use Rattle.scan.proofs.Test.{by}
-use Rattle.scan.specs.declared.Found.{Found}
-use Rattle.scan.specs.declared.Found.TheVariants.{At, Nothing}
 use Rattle.matching.specs.Form.{Equal}
 use Rattle.texts.specs.Texts.{Texts, text_of}
 use Rattle.row.specs.Row.{whole_rows}
@@ -30,7 +29,7 @@ module _ (T : Texts) (t label : List ℕ) where
   abbrev labels : ℕ → List (List ℕ)
   labels n = labels_of T (listed_from t 0 n)
 
-  no_equal : (k : ℕ) → ((i : ℕ) → i < k → Equal (label_of T t i) label → ⊥) → row_of T t label k ≡ Nothing
+  no_equal : (k : ℕ) → ((i : ℕ) → i < k → Equal (label_of T t i) label → ⊥) → row_of T t label k ≡ None
   unfolding row_of
   no_equal k n = (none_equal (labels k) label).1 (λ i g e. let h : i < k = rw (labels_length T t 0 k) at g in n i h (rw (label_of_lem T t k i h) at e))
 
@@ -39,7 +38,7 @@ module _ (T : Texts) (t label : List ℕ) where
     same_label i g = label_of_lem T t k i g ∙ sym (label_of_lem T t count i (omega arith))
 
     -- what is found among all of them stands before row k, or nothing does
-    found_before : {j : ℕ} → row_of T t label count ≡ At j → j < k → row_of T t label k ≡ At j
+    found_before : {j : ℕ} → row_of T t label count ≡ Some j → j < k → row_of T t label k ≡ Some j
     unfolding row_of
     found_before {j} e g =
         let w = (first_equal (labels count) label j).0 e in
@@ -50,13 +49,13 @@ module _ (T : Texts) (t label : List ℕ) where
           first = λ i i<j q. w.first i i<j (rw (same_label i (omega arith)) at q);
         })
 
-    found_from : {j : ℕ} → row_of T t label count ≡ At j → k ≤ j → row_of T t label k ≡ Nothing
+    found_from : {j : ℕ} → row_of T t label count ≡ Some j → k ≤ j → row_of T t label k ≡ None
     unfolding row_of
     found_from {j} e g =
         let w = (first_equal (labels count) label j).0 e in
         no_equal k (λ i i<k q. w.first i (omega arith) (rw (label_of_lem T t count i (omega arith)) q))
 
-    not_found : row_of T t label count ≡ Nothing → row_of T t label k ≡ Nothing
+    not_found : row_of T t label count ≡ None → row_of T t label k ≡ None
     unfolding row_of
     not_found e = no_equal k (λ i i<k q. (none_equal (labels count) label).0 e i (rw (labels_length T t 0 count) (omega arith)) (rw (label_of_lem T t count i (omega arith)) q))
 
@@ -89,17 +88,17 @@ module _ {T : Texts} {t : List ℕ} (l : Listing T t) {count : ℕ} (n : count �
   new_row f = by_none l in_list (no_equal T t (label_of T t k) k (λ i g q. new T t count index x p h f i (omega arith) (rw ek at q)))
 
   -- what the lookup finds among all rows
-  module _ {label : List ℕ} (el : label ≡ label_of T t k) {f : Found} (ef : f ≡ row_of T t label count) where
-    found_is : {g : Found} → f ≡ g → row_of T t (label_of T t k) count ≡ g
+  module _ {label : List ℕ} (el : label ≡ label_of T t k) {f : Option ℕ} (ef : f ≡ row_of T t label count) where
+    found_is : {g : Option ℕ} → f ≡ g → row_of T t (label_of T t k) count ≡ g
     found_is e = sym (ef ∙ rw el refl) ∙ e
 
-    pub found_none : f ≡ Nothing → false ≡ conflicts_at T k
+    pub found_none : f ≡ None → false ≡ conflicts_at T k
     found_none e = by_none l in_list (not_found T t (label_of T t k) within (found_is e))
 
-    pub found_later : {j : ℕ} → f ≡ At j → k ≤ j → false ≡ conflicts_at T k
+    pub found_later : {j : ℕ} → f ≡ Some j → k ≤ j → false ≡ conflicts_at T k
     found_later e g = by_none l in_list (found_from T t (label_of T t k) within (found_is e) g)
 
-    pub found_earlier : {j : ℕ} → f ≡ At j → j < k → {r : Bool} → r ≡ differ T (listed_at t j) (listed_at t k) → r ≡ conflicts_at T k
+    pub found_earlier : {j : ℕ} → f ≡ Some j → j < k → {r : Bool} → r ≡ differ T (listed_at t j) (listed_at t k) → r ≡ conflicts_at T k
     found_earlier e g d = by_row l in_list (found_before T t (label_of T t k) within (found_is e) g) d
 
 -- ---- the least row that conflicts, place by place
@@ -145,8 +144,8 @@ module _ {T : Texts} {count : ℕ} (n : count ≡ length (joined T)) {index : Li
       let z : k + 1 ≡ suc k = omega arith in
       rw z at (next_none T (none_until k (omega arith)) (omega arith) refl (clear k (omega arith)))
 
-  pub least_first : best < count → At best ≡ first_conflict T
+  pub least_first : best < count → Some best ≡ first_conflict T
   least_first g = found_here T (none_until best (omega arith)) g refl (l.is g)
 
-  pub none_first : count ≤ best → Nothing ≡ first_conflict T
+  pub none_first : count ≤ best → None ≡ first_conflict T
   none_first g = none_left T (none_until best (omega arith)) g

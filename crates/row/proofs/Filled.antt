@@ -1,4 +1,5 @@
 -- Rows stored one after the other fill the table, and are read back from it.
+use Rattle.std.specs.Prelude.{None, Some}
 use Prim.Native.Nat.{ℕ, zero, suc, ◌+◌, ◌*◌, ◌≤◌, ◌<◌}
 use native.Mathlib.Nat.{add-zero}
 use native.Mathlib.Numerals.{add-one}
@@ -8,7 +9,6 @@ use mathlib.Core.List.{List, [], ◌∷◌, ◌++◌, map}
 use mathlib.Core.Logic.{◌↔◌}
 use lib.ListN.{length, get_or, take, drop}
 use lib.Seq.{get_or-append-add}
-use Rattle.scan.specs.declared.Found.TheVariants.{At, Nothing}
 use Rattle.rows.specs.Rows
 use Rattle.rows.proofs.Filled
 use Rattle.texts.specs.Texts.{Texts, text_of}
@@ -110,10 +110,10 @@ module _ (T : Texts) (ds : List Listed) (t : List ℕ) (fits : length ds ≤ who
   unfolding row_of
   row_of_filled label = rw entries_back
 
-  pub row_of_first : (label : List ℕ) (k : ℕ) → (row_of T (filled T ds t) label (length ds) ≡ At k) ↔ FirstEqual (labels_of T ds) label k
+  pub row_of_first : (label : List ℕ) (k : ℕ) → (row_of T (filled T ds t) label (length ds) ≡ Some k) ↔ FirstEqual (labels_of T ds) label k
   row_of_first label k = rw (row_of_filled label) (first_equal (labels_of T ds) label k)
 
-  pub row_of_none : (label : List ℕ) → (row_of T (filled T ds t) label (length ds) ≡ Nothing) ↔ NoneEqual (labels_of T ds) label
+  pub row_of_none : (label : List ℕ) → (row_of T (filled T ds t) label (length ds) ≡ None) ↔ NoneEqual (labels_of T ds) label
   row_of_none label = rw (row_of_filled label) (none_equal (labels_of T ds) label)
 
   -- the label lies within its text

@@ -1,7 +1,5 @@
 -- Reading definitions back from a table, and looking a label up.
-use Rattle.std.specs.Prelude.{ℕ, zero, suc, ◌+◌, ◌-◌, ◌*◌, ◌≤◌, ◌<◌, List, [], ◌∷◌, true, false, length, get_or}
-use Rattle.scan.specs.declared.Found.{Found}
-use Rattle.scan.specs.declared.Found.TheVariants.{At, Nothing}
+use Rattle.std.specs.Prelude.{ℕ, zero, suc, ◌+◌, ◌-◌, ◌*◌, ◌≤◌, ◌<◌, List, [], ◌∷◌, true, false, length, get_or, None, Option, Some}
 use Rattle.matching.specs.Reading.{matches}
 use Rattle.row.specs.declared.Range.{Range}
 use Rattle.row.specs.declared.Definition.{Definition}
@@ -38,19 +36,19 @@ abbrev pub label_at : Texts → List ℕ → ℕ → List ℕ
 label_at T t at = bytes_of (text_of T (get_or t at 0)) (range_at t (at + 1))
 
 -- the first of these labels, numbered from k on, that matches
-unfoldable pub match_from : ℕ → List (List ℕ) → List ℕ → Found
-match_from k [] label = Nothing
-match_from k (l ∷ ls) label = elim (matches l label) [ true ↦ At k | false ↦ match_from (k + 1) ls label ]
+unfoldable pub match_from : ℕ → List (List ℕ) → List ℕ → Option ℕ
+match_from k [] label = None
+match_from k (l ∷ ls) label = elim (matches l label) [ true ↦ Some k | false ↦ match_from (k + 1) ls label ]
 
-abbrev pub first_match : List (List ℕ) → List ℕ → Found
+abbrev pub first_match : List (List ℕ) → List ℕ → Option ℕ
 first_match = match_from 0
 
 -- the first row from row k on, of the table's first `count` rows, whose label matches
-abbrev pub row_from : Texts → List ℕ → List ℕ → ℕ → ℕ → Found
+abbrev pub row_from : Texts → List ℕ → List ℕ → ℕ → ℕ → Option ℕ
 row_from T t label k count = match_from k (labels_of T (listed_from t k (count - k))) label
 
 -- the first of the table's `count` rows whose label matches
-unfoldable pub row_of : Texts → List ℕ → List ℕ → ℕ → Found
+unfoldable pub row_of : Texts → List ℕ → List ℕ → ℕ → Option ℕ
 row_of T t label count = first_match (labels_of T (listed_from t 0 count)) label
 
 -- ---- rows that can be looked up

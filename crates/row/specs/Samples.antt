@@ -1,9 +1,7 @@
 -- Rows, tables and lookups, by computation.
-use Rattle.std.specs.Prelude.{ℕ, ◌≡◌, refl, List, [], ◌∷◌, map, replicate}
+use Rattle.std.specs.Prelude.{ℕ, ◌≡◌, refl, List, [], ◌∷◌, map, replicate, None, Option, Some}
 use Prim.Native.String.{String}
 use Rattle.scan.specs.Ascii.{ascii}
-use Rattle.scan.specs.declared.Found.{Found}
-use Rattle.scan.specs.declared.Found.TheVariants.{At, Nothing}
 use Rattle.matching.specs.Reading.{lower, pair, code_of, folds_from, spaced, squeeze, compared, equals, matches}
 use Rattle.line.specs.Line.{feeds, line_of}
 use Rattle.rows.specs.Rows
@@ -64,28 +62,28 @@ pub named : Named
 named = record { no_definition = refl; note = refl; sheet = refl }
 
 -- ---- lookups
-abbrev found : List String → String → Found
+abbrev found : List String → String → Option ℕ
 found labels label = first_match (map ascii labels) (ascii label)
 
 pub record Lookups : Type 0 where
-  pub first : found ("a" ∷ "foo" ∷ "FOO" ∷ []) "Foo" ≡ At 1
-  pub blanks : found ("foo\tbar" ∷ "foo bar" ∷ []) " FOO\n bar" ≡ At 0
-  pub unequal : found ("foo" ∷ "bar" ∷ []) "baz" ≡ Nothing
-  pub no_rows : found [] "foo" ≡ Nothing
-  pub escape : found ("foo!" ∷ "foo\\!" ∷ []) "foo\\!" ≡ At 1
-  pub no_escape : found ("foo\\!" ∷ []) "foo!" ≡ Nothing
+  pub first : found ("a" ∷ "foo" ∷ "FOO" ∷ []) "Foo" ≡ Some 1
+  pub blanks : found ("foo\tbar" ∷ "foo bar" ∷ []) " FOO\n bar" ≡ Some 0
+  pub unequal : found ("foo" ∷ "bar" ∷ []) "baz" ≡ None
+  pub no_rows : found [] "foo" ≡ None
+  pub escape : found ("foo!" ∷ "foo\\!" ∷ []) "foo\\!" ≡ Some 1
+  pub no_escape : found ("foo\\!" ∷ []) "foo!" ≡ None
 
 pub lookups : Lookups
 unfolding lower pair code_of folds_from spaced squeeze compared equals matches match_from
 lookups = record { first = refl; blanks = refl; unequal = refl; no_rows = refl; escape = refl; no_escape = refl }
 
 -- of the two equal labels, one of the note and one of the sheet, the first is found, in the table that the two rows fill; and each in its own text
-abbrev looked : List Listed → ℕ → Found
+abbrev looked : List Listed → ℕ → Option ℕ
 looked js n = row_of T (filled T js (replicate n 9)) (ascii "Max") 2
 
 pub record TableLookups : Type 0 where
-  pub note_first : looked (max ∷ stale ∷ []) 17 ≡ At 0
-  pub own_text : looked (past_end ∷ stale ∷ []) 16 ≡ At 1
+  pub note_first : looked (max ∷ stale ∷ []) 17 ≡ Some 0
+  pub own_text : looked (past_end ∷ stale ∷ []) 16 ≡ Some 1
 
 pub table_lookups : TableLookups
 unfolding feeds line_of Rows.filled Rows.rows listed_from row_of lower pair code_of folds_from spaced squeeze compared equals matches match_from

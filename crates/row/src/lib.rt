@@ -1,17 +1,21 @@
 // The definition table: rows of eight 32-bit numbers in a lent slice, and the lookup of a label in it.
 #![tactic(auto)]
 
+mod listing;
+
 ghost use Rattle.std.specs.Prelude.{◌≡◌, ◌+◌, ◌<◌, ◌^◌, length, get_or};
 ghost use Rattle.texts.specs.Texts.{texts, text_of};
 ghost use Rattle.row.specs.First.{bytes_of};
 ghost use Rattle.row.specs.Row.{range, absent, definition, SmallPart, Small, whole_rows, stored_range, stored_on};
-ghost use Rattle.casefold.specs.Table.{table as folds};
-ghost use Rattle.row.specs.Reading.{range_at, text_at, definition_at, label_at, Within, Fit, row_from, row_of};
+ghost use Rattle.row.specs.Reading.{range_at, text_at, definition_at, label_at, Within, row_from};
+ghost use Rattle.row.specs.Listing.{texts_of, row_with};
 
-use scan::Found;
+use alike::Place;
+use folding::Table;
+pub use listing::Definitions;
 
 // A part of a text: where it starts, and where it ends. An absent part is 0 and 0.
-#[derive(Clone, Copy)]
+#[derive(Clone, Copy, PartialEq, Eq)]
 pub struct Range {
     pub start: usize,
     pub end: usize,
@@ -145,101 +149,74 @@ pub fn label_at<'a>(note: &'a [u8], sheet: &'a [u8], table: &[u32], at: usize) -
     part_of(note, sheet, table[at] as usize, r)
 }
 
-// The first row from row `from` on, of `n`, whose label equals `label`; with the table of folding at hand.
-fn lookup_folded<'a>(
-    fold: &[u16; 1328],
-    note: &'a [u8],
-    sheet: &'a [u8],
-    table: &[u32],
-    n: usize,
-    from: usize,
-    label: &[u8],
-) -> Found
-    requires fold_value { fold.now ≡ folds }
-    requires fit { Fit (texts note.now sheet.now) table.now n }
-    ensures { result ≡ row_from (texts note.now sheet.now) table.now label.now from n }
+// The first row from row `from` on whose label equals `label`; with the table of folding at hand.
+fn lookup_folded<'a>(table: &Table, d: &Definitions<'a>, from: usize, label: &[u8]) -> Option<usize>
+    ensures { result ≡ row_from (texts_of d.now) d.now.table.now label.now from d.now.count }
 {
-    let mut k = from;
-    while k < n {
-        let own = label_at(note, sheet, table, k * Definition::WIDTH);
-        if alike::same_folded(fold, own, label) {
-            return Found::At(k);
+    for k in from..d.count {
+        if alike::same_folded(table, d.label(k), label) {
+            return Some(k);
         }
-        k += 1;
     }
-    Found::Nothing
+    None
 }
 
-// The same; the table of folding is built here, once for all rows.
-fn lookup_by_table<'a>(
-    note: &'a [u8],
-    sheet: &'a [u8],
-    table: &[u32],
-    n: usize,
-    from: usize,
-    label: &[u8],
-) -> Found
-    requires { Fit (texts note.now sheet.now) table.now n }
-    ensures { result ≡ row_from (texts note.now sheet.now) table.now label.now from n }
+// The same; the table of folding is built here, once for all rows, so that no other lookup pays for its room.
+#[inline(never)]
+fn lookup_by_table<'a>(d: &Definitions<'a>, from: usize, label: &[u8]) -> Option<usize>
+    ensures { result ≡ row_from (texts_of d.now) d.now.table.now label.now from d.now.count }
 {
-    let fold = folding::fold_table();
-    lookup_folded(&fold, note, sheet, table, n, from, label)
+    lookup_folded(&Table::new(), d, from, label)
 }
 
-// The first of `n` rows whose label equals `label`. Rows are passed by where they start, so that no row is numbered but the one found,
-// and without the table of folding, up to the first row that asks for it.
-fn lookup_bytes<'a>(note: &'a [u8], sheet: &'a [u8], table: &[u32], n: usize, label: &[u8]) -> Found
-    requires { Fit (texts note.now sheet.now) table.now n }
-    ensures { result ≡ row_of (texts note.now sheet.now) table.now label.now n }
+// The first row whose label equals `label`. Rows are passed without the table of folding, up to the first that asks for it. The project's rule
+// on the lookup names this form: a labelled loop over the rows and in it a loop over the label's characters, where `continue` passes an unequal
+// row and `break` yields the first equal one. So it is no `for` that asks `alike::same_quick`; and `k` is counted, since a `for` yields no value.
+fn lookup_bytes<'a>(d: &Definitions<'a>, label: &[u8]) -> Option<usize>
+    ensures { result ≡ row_with d.now label.now }
 {
     let first = scan::peek(label, 0);
-    let size = n * Definition::WIDTH;
-    let mut at = 0;
+    let mut k = 0;
     'rows: loop {
-        if size <= at {
-            break Found::Nothing;
+        if d.count <= k {
+            break 'rows None;
         }
-        let own = label_at(note, sheet, table, at);
+        let own = d.label(k);
         if alike::are_unlike(scan::peek(own, 0), first) {
-            at += Definition::WIDTH;
+            k += 1;
             continue 'rows;
         }
         let mut i = alike::same_count(own, label, 0, 0, alike::ASCII);
         let mut j = i;
         loop {
-            let p = alike::past_blanks(own, i);
-            let q = alike::past_blanks(label, j);
-            let x = scan::peek(own, p);
-            let y = scan::peek(label, q);
-            if alike::are_apart(own, label, i, j, p, q, x, y) {
-                at += Definition::WIDTH;
+            let x = Place::after(own, i);
+            let y = Place::after(label, j);
+            if alike::are_apart(&x, &y) {
+                k += 1;
                 continue 'rows;
             }
-            if own.len() <= p {
-                break 'rows Found::At(at / Definition::WIDTH);
+            if x.is_over() {
+                break 'rows Some(k);
             }
-            let same = alike::shared(own, label, p, q, x, y);
-            if same == 0 {
-                break 'rows lookup_by_table(note, sheet, table, n, at / Definition::WIDTH, label);
-            }
-            i = p + same;
-            j = q + same;
+            let Some(n) = alike::shared(&x, &y) else {
+                break 'rows lookup_by_table(d, k, label);
+            };
+            i = x.at + n;
+            j = y.at + n;
         }
     }
 }
 
 // The same. Where the label begins beyond ASCII and the first row's otherwise, the table is asked from the start.
-pub fn lookup<'a>(note: &'a [u8], sheet: &'a [u8], table: &[u32], n: usize, label: &[u8]) -> Found
-    requires { Fit (texts note.now sheet.now) table.now n }
-    ensures { result ≡ row_of (texts note.now sheet.now) table.now label.now n }
+pub fn lookup<'a>(d: &Definitions<'a>, label: &[u8]) -> Option<usize>
+    ensures { result ≡ row_with d.now label.now }
 {
-    if n == 0 {
-        return Found::Nothing;
+    if d.count == 0 {
+        return None;
     }
-    let own = label_at(note, sheet, table, 0);
     let first = scan::peek(label, 0);
-    if (alike::ASCII < first) & (scan::peek(own, 0) != first) {
-        return lookup_by_table(note, sheet, table, n, 0, label);
+    if (alike::ASCII < first) & (scan::peek(d.label(0), 0) != first) {
+        return lookup_by_table(d, 0, label);
     }
-    lookup_bytes(note, sheet, table, n, label)
+    lookup_bytes(d, label)
 }

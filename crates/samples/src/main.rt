@@ -6,7 +6,7 @@
 ghost use Rattle.std.specs.Prelude.{◌≤◌, ◌≡◌, length, IfOk};
 ghost use Rattle.container.specs.Container.{Lendable, Framed};
 
-use container::{Header, Sizes};
+use container::Sizes;
 use std::io;
 use std::io::{Read, Write};
 
@@ -26,30 +26,11 @@ const PAGE_ROOM: usize = 40960;
 // The most that a case's note, sheet and label take, with their line ends.
 const TEXT_ROOM: usize = 65536;
 
-// Fresh tables and a fresh page. The `ensures` gives only the length, which lending an array as a slice needs.
-fn definition_table() -> [u32; DEFINITION_ROOM]
-    ensures { 1200 ≡ length result }
+// As many of the same as an array holds. The `ensures` gives only the length, which lending it as a slice needs.
+fn room<T: Copy, const N: usize>(item: T) -> [T; N]
+    ensures { N ≡ length result }
 {
-    [GUARD; DEFINITION_ROOM]
-}
-
-fn span_table() -> [u32; SPAN_ROOM]
-    ensures { 3000 ≡ length result }
-{
-    [GUARD; SPAN_ROOM]
-}
-
-fn page_buffer() -> [u8; PAGE_ROOM]
-    ensures { 40960 ≡ length result }
-{
-    [PAGE_GUARD; PAGE_ROOM]
-}
-
-// Room for the note, the sheet and the label. The `ensures` is as above.
-fn text_room() -> [u8; TEXT_ROOM]
-    ensures { 65536 ≡ length result }
-{
-    [0; TEXT_ROOM]
+    [item; N]
 }
 
 // Reads until `room` is full or the input ends, and answers how many bytes stand at its start.
@@ -76,8 +57,8 @@ fn show_reading<'a, W: Write>(
 ) -> io::Result<()>
     requires { Lendable sizes }
 {
-    let mut definition_room = definition_table();
-    let mut span_room = span_table();
+    let mut definition_room = room::<u32, DEFINITION_ROOM>(GUARD);
+    let mut span_room = room::<u32, SPAN_ROOM>(GUARD);
     let definitions = &mut definition_room[..sizes.definitions];
     let spans = &mut span_room[..sizes.spans];
     let answer = notice::read(note, sheet, sizes.release, definitions, spans);
@@ -94,9 +75,9 @@ fn show_rendering<'a, W: Write>(
 ) -> io::Result<()>
     requires { Lendable sizes }
 {
-    let mut definition_room = definition_table();
-    let mut span_room = span_table();
-    let mut page_room = page_buffer();
+    let mut definition_room = room::<u32, DEFINITION_ROOM>(GUARD);
+    let mut span_room = room::<u32, SPAN_ROOM>(GUARD);
+    let mut page_room = room::<u8, PAGE_ROOM>(PAGE_GUARD);
     let definitions = &mut definition_room[..sizes.definitions];
     let spans = &mut span_room[..sizes.spans];
     let page = &mut page_room[..sizes.page];
@@ -218,14 +199,12 @@ fn run_case<R: Read, W: Write>(from: &mut R, to: &mut W, index: u64) -> io::Resu
     if got == 0 {
         return Ok(false);
     }
-    report::text(to, b"case")?;
-    report::number(to, index)?;
-    report::text(to, b"\n")?;
-    let Header::Case(sizes) = container::read_header(&line[..got]) else {
+    writeln!(to, "case {index}")?;
+    let Some(sizes) = container::read_header(&line[..got]) else {
         return stop(to);
     };
-    let mut room = text_room();
-    run_sizes(from, to, &mut room, sizes)
+    let mut text_room = room::<u8, TEXT_ROOM>(0);
+    run_sizes(from, to, &mut text_room, sizes)
 }
 
 fn main(rt: HostRuntime) -> io::Result<()> {

@@ -12,18 +12,18 @@ use lib.Dec.{eqb}
 use Rattle.scan.specs.Byte.{punctuation, escapes}
 use Rattle.scan.specs.Closing.{Units, none, escape, byte, inner, Closed}
 use Rattle.scan.specs.Reading.{stop, next, scan, bare, Reached, closing_step, closing_from, closing}
-use Rattle.scan.specs.declared.Found.{Found}
-use Rattle.scan.specs.declared.Found.TheVariants.{At, Nothing}
+use Rattle.std.specs.Prelude.{Option}
+use Rattle.std.specs.Prelude.{Some, None}
 use Rattle.scan.proofs.Test.{by, and_left, and_right}
 use Rattle.scan.proofs.Scan.{scan_cons, Outcome, scan_holds}
 
 -- ---- the ways through a turn: each premise is a fact that the code has there
 module _ (close bar other : ℕ) (t : Reached) (b : ℕ) (s : List ℕ) where
-  pub closes : bare close b t.inside ≡ true → closing_step close bar other t b s ≡ stop (At t.at)
+  pub closes : bare close b t.inside ≡ true → closing_step close bar other t b s ≡ stop (Some t.at)
   unfolding closing_step
   closes h = simp h
 
-  pub bars : bare close b t.inside ≡ false → (not t.inside && (eqb b bar || eqb b other)) ≡ true → closing_step close bar other t b s ≡ stop Nothing
+  pub bars : bare close b t.inside ≡ false → (not t.inside && (eqb b bar || eqb b other)) ≡ true → closing_step close bar other t b s ≡ stop None
   unfolding closing_step
   bars h k = simp (h, k)
 
@@ -39,10 +39,10 @@ pub record ClosedAt (close bar other : ℕ) (s : List ℕ) (at e : ℕ) : Type 0
   pub closed : Closed close bar other s text more
   pub place : e ≡ at + length text
 
-pub never : {e : ℕ} → Nothing ≡ At e → ⊥
+pub never : {e : ℕ} → None ≡ Some e → ⊥
 never q = let z : ◌≡◌ {A = ℕ} 0 1 = cc in omega arith
 
-pub at_inj : {d e : ℕ} → At d ≡ At e → d ≡ e
+pub at_inj : {d e : ℕ} → Some d ≡ Some e → d ≡ e
 at_inj q = cc
 
 -- what follows the byte after b does not matter
@@ -53,9 +53,9 @@ escapes_front b c (x ∷ l) m = refl
 pub slash : (b p : ℕ) (s : List ℕ) → escapes (b ∷ p ∷ s) ≡ true → (b ≡ 92) × (punctuation p ≡ true)
 slash b p s x = (eqb-true b 92 (and_left _ (punctuation p) x), and_right (eqb b 92) _ x)
 
-abbrev Below : ℕ → Found → Type 0
-Below n (At e) = e < n
-Below n Nothing = Unit {0}
+abbrev Below : ℕ → Option ℕ → Type 0
+Below n (Some e) = e < n
+Below n None = Unit {0}
 
 module _ (close bar other : ℕ) where
   keeps : (n : ℕ) (t : Reached) (b : ℕ) (s : List ℕ) → t.at + length (b ∷ s) ≡ n
@@ -66,7 +66,7 @@ module _ (close bar other : ℕ) where
       (λ e. by (not t.inside && (eqb b bar || eqb b other)) (λ f. rw (e, f) tt) (λ f. rw (e, f) (omega arith)))
 
   -- the delimiter that is found stands before the end
-  pub closing_below : (s : List ℕ) (at e : ℕ) → closing close bar other s at ≡ At e → e < at + length s
+  pub closing_below : (s : List ℕ) (at e : ℕ) → closing close bar other s at ≡ Some e → e < at + length s
   unfolding closing
   closing_below s at e q =
       let h : Below (at + length s) (closing close bar other s at) =
@@ -90,21 +90,21 @@ module _ (close bar other : ℕ) (free : inner close bar other 92 ≡ true) wher
 
   -- ---- complete: a text that its closing delimiter follows is found
   find : (more : List ℕ) {l : List ℕ} → Units (inner close bar other) (close ∷ []) l → (at : ℕ)
-      → closing_from close bar other (l ++ close ∷ more) (record { at = at; inside = false }) ≡ At (at + length l)
-  find more none at = scan_cons _ _ close more _ (closes close bar other _ _ _ (eq-eqb close close refl)) ∙ ap At (sym (add-zero at))
+      → closing_from close bar other (l ++ close ∷ more) (record { at = at; inside = false }) ≡ Some (at + length l)
+  find more none at = scan_cons _ _ close more _ (closes close bar other _ _ _ (eq-eqb close close refl)) ∙ ap Some (sym (add-zero at))
   find more (escape {p} {l} e t) at =
-      pass 92 _ at false true (not_close 92 free) (not_bars 92 free) e ∙ pass p _ (at + 1) true false refl refl refl ∙ find more t (at + 1 + 1) ∙ ap At (omega arith)
+      pass 92 _ at false true (not_close 92 free) (not_bars 92 free) e ∙ pass p _ (at + 1) true false refl refl refl ∙ find more t (at + 1 + 1) ∙ ap Some (omega arith)
   find more (byte {b} {l} a e t) at =
-      pass b _ at false false (not_close b a) (not_bars b a) (escapes_front b close l more ∙ e) ∙ find more t (at + 1) ∙ ap At (omega arith)
+      pass b _ at false false (not_close b a) (not_bars b a) (escapes_front b close l more ∙ e) ∙ find more t (at + 1) ∙ ap Some (omega arith)
 
   -- ---- sound: what is found is the end of such a text
   Turn : (b : ℕ) (s : List ℕ) (at : ℕ) (inside : Bool) (e : ℕ) → Type 0
   Turn b s at inside e =
       ((bare close b inside ≡ true) × (at ≡ e))
       ⊎ ((bare close b inside ≡ false) × ((not inside && (eqb b bar || eqb b other)) ≡ false)
-      × (closing_from close bar other s (record { at = at + 1; inside = not inside && escapes (b ∷ s) }) ≡ At e))
+      × (closing_from close bar other s (record { at = at + 1; inside = not inside && escapes (b ∷ s) }) ≡ Some e))
 
-  turn : (b : ℕ) (s : List ℕ) (at : ℕ) (inside : Bool) (e : ℕ) → closing_from close bar other (b ∷ s) (record { at = at; inside = inside }) ≡ At e → Turn b s at inside e
+  turn : (b : ℕ) (s : List ℕ) (at : ℕ) (inside : Bool) (e : ℕ) → closing_from close bar other (b ∷ s) (record { at = at; inside = inside }) ≡ Some e → Turn b s at inside e
   unfolding Turn
   turn b s at inside e r =
       by (bare close b inside)
@@ -114,7 +114,7 @@ module _ (close bar other : ℕ) (free : inner close bar other 92 ≡ true) wher
       (λ o. inr (c, o, sym (pass b s at inside _ c o refl) ∙ r)))
 
   abbrev Sound : List ℕ → Type 0
-  Sound s = (at e : ℕ) → closing_from close bar other s (record { at = at; inside = false }) ≡ At e → ClosedAt close bar other s at e
+  Sound s = (at e : ℕ) → closing_from close bar other s (record { at = at; inside = false }) ≡ Some e → ClosedAt close bar other s at e
 
   -- at the closing delimiter
   here : (b : ℕ) (s : List ℕ) (at e : ℕ) → (bare close b false ≡ true) × (at ≡ e) → ClosedAt close bar other (b ∷ s) at e
@@ -148,7 +148,7 @@ module _ (close bar other : ℕ) (free : inner close bar other 92 ≡ true) wher
         place = omega arith;
       }
 
-  nil_never : (t : Reached) {e : ℕ} → closing_from close bar other [] t ≡ At e → ⊥
+  nil_never : (t : Reached) {e : ℕ} → closing_from close bar other [] t ≡ Some e → ⊥
   unfolding scan
   nil_never t r = never r
 
@@ -175,12 +175,12 @@ module _ (close bar other : ℕ) (free : inner close bar other 92 ≡ true) wher
   sound (b ∷ []) = sound_one b
   sound (b ∷ p ∷ s) = sound_two b p s (sound (p ∷ s)) (sound s)
 
-  pub closing_iff : (s : List ℕ) (at e : ℕ) → (closing close bar other s at ≡ At e) ↔ ClosedAt close bar other s at e
+  pub closing_iff : (s : List ℕ) (at e : ℕ) → (closing close bar other s at ≡ Some e) ↔ ClosedAt close bar other s at e
   unfolding closing
   closing_iff s at e = (sound s at e, (λ m. rw (m.closed.whole, m.place) (find m.more m.closed.text at)))
 
   -- the delimiter that is found stands within the list
-  pub closing_inside : (s : List ℕ) (at e : ℕ) → closing close bar other (drop at s) at ≡ At e → (at ≤ e) × (e < length s)
+  pub closing_inside : (s : List ℕ) (at e : ℕ) → closing close bar other (drop at s) at ≡ Some e → (at ≤ e) × (e < length s)
   closing_inside s at e q =
       let m = (closing_iff (drop at s) at e).0 q in
       let n : length (drop at s) ≡ length m.text + suc (length m.more) = ap length m.closed.whole ∙ length-append m.text _ in

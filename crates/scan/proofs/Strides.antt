@@ -1,26 +1,27 @@
--- Sixteen bytes at once: a run of passing bytes by its parts, and reading on past it.
-use Prim.Native.Nat.{ℕ, zero, suc, ◌+◌, ◌*◌, ◌/◌, ◌≤◌, ◌<◌}
-use native.Mathlib.Nat.{add-zero, div-mul-le_self}
+-- Sixteen items at once: a run of passing items by its parts, and reading on past it.
+use Prim.Native.Nat.{ℕ, zero, suc, ◌+◌, ◌-◌, ◌*◌, ◌/◌, ◌≤◌, ◌<◌}
+use native.Mathlib.Nat.{add-zero, zero-add, div-mul-le_self}
 use native.Mathlib.Omega.{arith}
-use mathlib.Core.Path.{◌≡◌, sym, ap, ◌∙◌}
+use mathlib.Core.Path.{◌≡◌, refl, sym, ap, ◌∙◌}
 use mathlib.Core.List.{List, [], ◌∷◌}
 use mathlib.Core.Bool.{Bool, true, false, true≢false, not, ◌&&◌}
 use borrow.Author.Tests.{le-leb, lt-leb, ne_eqb, leb-true, leb-false, not-true, not-false}
-use lib.ListN.{length, get_or, drop, length-drop}
-use lib.Seq.{drop-drop}
-use lib.Dec.{eqb}
+use lib.ListN.{length, get_or, take, drop, length-drop}
+use lib.Seq.{drop-drop, length-take-le}
+use Rattle.std.proofs.lemmas.List.{drop-take, length-take}
+use lib.Dec.{eqb, leb}
 use Rattle.scan.proofs.Test.{by, leb_same}
 use Rattle.scan.specs.Reading.{run, past, runs, past_strides}
-use Rattle.scan.proofs.Scan.{run_yes, run_no, run_fits, at_cons}
+use Rattle.scan.proofs.Scan.{run_yes, run_no, run_fits, at_item}
 
 -- a byte that passes is none that does not
 pub told_apart : (test : ℕ → Bool) (b m : ℕ) → test b ≡ true → test m ≡ false → eqb b m ≡ false
 told_apart test b m e f = ne_eqb b m (λ q. true≢false (sym e ∙ ap test q ∙ f))
 
-module _ (test : ℕ → Bool) where
+module _ {A : Type 0} (test : A → Bool) where
   -- a reading that passes each passing byte in one step passes k of them in k steps
-  module _ {A : Type 0} (f : List ℕ → ℕ → A) (step : (b : ℕ) (l : List ℕ) (at : ℕ) → test b ≡ true → f (b ∷ l) at ≡ f l (at + 1)) where
-    through : (k : ℕ) (l : List ℕ) (at : ℕ) → k ≤ run test l → f (drop k l) (at + k) ≡ f l at
+  module _ {R : Type 0} (f : List A → ℕ → R) (step : (b : A) (l : List A) (at : ℕ) → test b ≡ true → f (b ∷ l) at ≡ f l (at + 1)) where
+    through : (k : ℕ) (l : List A) (at : ℕ) → k ≤ run test l → f (drop k l) (at + k) ≡ f l at
     unfolding run
     through zero l at h = rw add-zero
     through (suc k) [] at h = let no : ⊥ = omega arith in absurd no
@@ -32,35 +33,35 @@ module _ (test : ℕ → Bool) where
         (λ e. let no : ⊥ = omega (arith, run_no test b l e) in absurd no)
 
     -- so it reads the same from past the strides on
-    pub strides_through : (s : List ℕ) (at : ℕ) → f (drop (past_strides test s at) s) (past_strides test s at) ≡ f (drop at s) at
+    pub strides_through : (s : List A) (at : ℕ) → f (drop (past_strides test s at) s) (past_strides test s at) ≡ f (drop at s) at
     unfolding past_strides
     strides_through s at =
         let n = run test (drop at s) in
         rw (← drop-drop (n / 16 * 16) at s) (through (n / 16 * 16) (drop at s) at (div-mul-le_self n 16))
 
   -- and so does the end of a run of bytes of which the passing ones are some
-  module _ (wide : ℕ → Bool) (among : (b : ℕ) → test b ≡ true → wide b ≡ true) where
-    wide_byte : (b : ℕ) (l : List ℕ) (k : ℕ) → test b ≡ true → k + run wide (b ∷ l) ≡ k + 1 + run wide l
+  module _ (wide : A → Bool) (among : (b : A) → test b ≡ true → wide b ≡ true) where
+    wide_byte : (b : A) (l : List A) (k : ℕ) → test b ≡ true → k + run wide (b ∷ l) ≡ k + 1 + run wide l
     wide_byte b l k e = omega (arith, run_yes wide b l (among b e))
 
-    pub past_through : (s : List ℕ) (at : ℕ) {i : ℕ} → i ≡ past_strides test s at → past wide s i ≡ past wide s at
+    pub past_through : (s : List A) (at : ℕ) {i : ℕ} → i ≡ past_strides test s at → past wide s i ≡ past wide s at
     unfolding past
-    past_through s at e = rw e (strides_through (λ (l : List ℕ) (k : ℕ). k + run wide l) wide_byte s at)
+    past_through s at e = rw e (strides_through (λ (l : List A) (k : ℕ). k + run wide l) wide_byte s at)
 
-  run_over : (k : ℕ) (l : List ℕ) → k ≤ run test l → run test l ≡ k + run test (drop k l)
+  run_over : (k : ℕ) (l : List A) → k ≤ run test l → run test l ≡ k + run test (drop k l)
   run_over k l h =
-      let q = through (λ (m : List ℕ) (at : ℕ). at + run test m) (λ b m at e. omega (arith, run_yes test b m e)) k l 0 h in
+      let q = through (λ (m : List A) (at : ℕ). at + run test m) (λ b m at e. omega (arith, run_yes test b m e)) k l 0 h in
       omega arith
 
   -- ---- a run by its parts
-  runs_one : (s : List ℕ) (i : ℕ) → i < length s → test (get_or s i 0) ≡ runs test 1 s i
-  runs_one s i h =
+  runs_one : (s : List A) (i : ℕ) {x : A} → i < length s → x ≡ get_or s i x → test x ≡ runs test 1 s i
+  runs_one s i {x} h is =
       let rest = drop (i + 1) s in
-      let p = ap (run test) (at_cons s i h) in
-      by (test (get_or s i 0)) (λ e. e ∙ sym (le-leb 1 (run test (drop i s)) (omega (arith, run_yes test (get_or s i 0) rest e))))
-      (λ e. e ∙ sym (lt-leb 1 (run test (drop i s)) (omega (arith, run_no test (get_or s i 0) rest e))))
+      let p = ap (run test) (at_item s i h is) in
+      by (test x) (λ e. e ∙ sym (le-leb 1 (run test (drop i s)) (omega (arith, run_yes test x rest e))))
+      (λ e. e ∙ sym (lt-leb 1 (run test (drop i s)) (omega (arith, run_no test x rest e))))
 
-  module _ (s : List ℕ) (i : ℕ) where
+  module _ (s : List A) (i : ℕ) where
     runs_more : (a b : ℕ) → (runs test a s i && runs test b s (i + a)) ≡ runs test (a + b) s i
     runs_more a b =
         by (runs test a s i)
@@ -69,24 +70,11 @@ module _ (test : ℕ → Bool) where
         rw e (leb_same b _ (a + b) _ (λ h. omega arith) (λ h. omega arith)))
         (λ e. let h = leb-false a _ e in rw e (sym (lt-leb (a + b) _ (omega arith))))
 
-    -- four parts of k bytes each; a, b, c and d are what calls answered of them
-    pub runs_four : (k : ℕ) {a b c d : Bool} → a ≡ runs test k s i → b ≡ runs test k s (i + k) → c ≡ runs test k s (i + (k + k)) → d ≡ runs test k s (i + (k + k + k))
-        → (((a && b) && c) && d) ≡ runs test (k + k + k + k) s i
-    runs_four k {a} {b} {c} {d} ea eb ec ed =
-        let two : (a && b) ≡ runs test (k + k) s i = rw (ea, eb) (runs_more k k) in
-        let three : ((a && b) && c) ≡ runs test (k + k + k) s i = rw (two, ec) (runs_more (k + k) k) in
-        rw (three, ed) (runs_more (k + k + k) k)
-
-    pub runs_bytes : {a b c d : Bool} → i + 4 ≤ length s → a ≡ test (get_or s i 0) → b ≡ test (get_or s (i + 1) 0) → c ≡ test (get_or s (i + 2) 0) → d ≡ test (get_or s (i + 3) 0)
-        → (((a && b) && c) && d) ≡ runs test 4 s i
-    runs_bytes h ea eb ec ed =
-        runs_four 1 (ea ∙ runs_one s i (omega arith)) (eb ∙ runs_one s (i + 1) (omega arith)) (ec ∙ runs_one s (i + 2) (omega arith)) (ed ∙ runs_one s (i + 3) (omega arith))
-
     pub strides_low : {r : ℕ} → r ≡ past_strides test s i → i ≤ r
     unfolding past_strides
     strides_low e = omega arith
 
-    -- fewer bytes are left
+    -- fewer items are left
     pub runs_short : length s < i + 16 → false ≡ runs test 16 s i
     runs_short h = sym (lt-leb 16 (run test (drop i s)) (omega (arith, run_fits test (drop i s), length-drop i s)))
 
@@ -104,6 +92,84 @@ module _ (test : ℕ → Bool) where
           let q = leb-false 16 (run test (drop i s)) (sym e ∙ not-true _ k) in
           omega (arith, inv)
 
+      pub strides_short : length s - i < 16 → i ≡ r
+      unfolding past_strides
+      strides_short h = omega (arith, inv, run_fits test (drop i s), length-drop i s)
+
       pub strides_end : length s ≤ i → i ≡ r
       unfolding past_strides
       strides_end h = omega (arith, inv, run_fits test (drop i s), length-drop i s)
+
+  -- one item more at the front, of which a call answered p
+  pub one_more : (s : List A) (k : ℕ) {x : A} {a p : Bool} → a ≡ runs test k s 0 → k < length s → x ≡ get_or s k x → p ≡ test x → (a && p) ≡ runs test (k + 1) s 0
+  one_more s k e h is q = rw (e, q, runs_one s k h is) (rw zero-add at (runs_more s 0 k 1))
+
+  -- ---- a slice of n items that all pass is a run of n
+  take_to : (n : ℕ) (l : List A) → n ≤ run test l → n ≤ run test (take n l)
+  unfolding run
+  take_to zero l h = omega arith
+  take_to (suc n) [] h = omega arith
+  take_to (suc n) (b ∷ l) h =
+      by (test b)
+      (λ e. omega (arith, run_yes test b (take n l) e, take_to n l (omega (arith, run_yes test b l e))))
+      (λ e. omega (arith, run_no test b l e))
+
+  take_from : (n : ℕ) (l : List A) → n ≤ run test (take n l) → n ≤ run test l
+  unfolding run
+  take_from zero l h = omega arith
+  take_from (suc n) [] h = omega arith
+  take_from (suc n) (b ∷ l) h =
+      by (test b)
+      (λ e. omega (arith, run_yes test b l e, take_from n l (omega (arith, run_yes test b (take n l) e))))
+      (λ e. omega (arith, run_no test b (take n l) e))
+
+  pub slice_told : (s : List A) (i n : ℕ) {p : Bool} → i + n ≤ length s → p ≡ runs test (length (take (i + n - i) (drop i s))) (take (i + n - i) (drop i s)) 0 → p ≡ runs test n s i
+  slice_told s i n h e =
+      let size : i + n - i ≡ n = omega arith in
+      let long : length (take n (drop i s)) ≡ n = length-take-le n (drop i s) (omega (arith, length-drop i s)) in
+      rw (size, long) at e ∙ leb_same n _ n _ (take_from n (drop i s)) (take_to n (drop i s))
+
+  -- ---- looking at the first m items alone: what stops there stops in all, and else all up to there pass
+  take_stop : (k : ℕ) (l : List A) → run test (take k l) < length (take k l) → run test l ≡ run test (take k l)
+  unfolding run
+  take_stop zero l h = let no : ⊥ = omega arith in absurd no
+  take_stop (suc k) [] h = refl
+  take_stop (suc k) (b ∷ l) h =
+      by (test b)
+      (λ e. omega (arith, run_yes test b l e, run_yes test b (take k l) e, take_stop k l (omega (arith, run_yes test b (take k l) e))))
+      (λ e. omega (arith, run_no test b l e, run_no test b (take k l) e))
+
+  module _ (s : List A) (at m : ℕ) {i : ℕ} (e : i ≡ past test (take m s) at) where
+    ahead : {R : Type 0} → (m ≤ at → R) → (at ≤ m → drop at (take m s) ≡ take (m - at) (drop at s) → R) → R
+    ahead f g =
+        by (leb at m)
+        (λ t. let h = leb-true at m t in let q : at + (m - at) ≡ m = omega arith in g h (rw q at (drop-take at (m - at) s)))
+        (λ t. let h = leb-false at m t in f (omega arith))
+
+    pub near_stop : m ≤ length s → i < m → i ≡ past test s at
+    unfolding past
+    near_stop k h =
+        ahead (λ f. let no : ⊥ = omega (arith, e) in absurd no)
+        (λ f q.
+        let r = rw q at e in
+        let long = length-take-le (m - at) (drop at s) (omega (arith, length-drop at s)) in
+        let stop = take_stop (m - at) (drop at s) (omega (arith, r, long)) in
+        omega (arith, r, stop))
+
+    pub near_on : m ≤ i → past test s i ≡ past test s at
+    unfolding past
+    near_on h =
+        ahead
+        (λ f.
+        let l = drop at (take m s) in
+        let stay : i ≡ at = omega (arith, e, run_fits test l, length-drop at (take m s), length-take m s) in
+        rw stay)
+        (λ f q.
+        let k = m - at in
+        let l = drop at s in
+        let r = rw q at e in
+        let full : k ≤ run test (take k l) = omega (arith, r, run_fits test (take k l), length-take k l) in
+        let over = run_over k l (take_from k l full) in
+        let to : at + k ≡ i = omega (arith, r, run_fits test (take k l), length-take k l) in
+        let on = rw (drop-drop k at s, to) at over in
+        omega (arith, on, to))

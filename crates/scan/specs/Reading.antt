@@ -1,9 +1,6 @@
 -- Reading a list from the front: with a state to an answer, by runs of bytes that pass a test, by leaps, and up to a closing delimiter.
-use Rattle.std.specs.Prelude.{ℕ, zero, suc, ◌+◌, ◌-◌, ◌*◌, ◌/◌, List, [], ◌∷◌, ◌++◌, Bool, true, false, cond, not, ◌&&◌, ◌||◌, drop, leb, eqb}
-use Rattle.std.specs.Bool.{beq}
-use Rattle.scan.specs.Byte.{within, escapes}
-use Rattle.scan.specs.declared.Found.{Found}
-use Rattle.scan.specs.declared.Found.TheVariants.{At, Nothing}
+use Rattle.std.specs.Prelude.{ℕ, zero, suc, ◌+◌, ◌-◌, ◌*◌, ◌/◌, List, [], ◌∷◌, ◌++◌, Bool, true, false, cond, not, ◌&&◌, ◌||◌, drop, leb, eqb, Option, Some, None}
+use Rattle.scan.specs.Byte.{escapes}
 
 -- ---- a turn sees the state, the byte, and what is left from that byte on
 pub data Step (S A : Type 0) : Type 0 where
@@ -19,32 +16,24 @@ module _ {S A : Type 0} (step : S → ℕ → List ℕ → Step S A) (done : S �
   scan [] t = done t
   scan (b ∷ s) t = on_step (step t b (b ∷ s)) (scan s)
 
--- ---- the run of bytes at the front that pass a test
-module _ (test : ℕ → Bool) where
+-- ---- the run of items at the front that pass a test
+module _ {A : Type 0} (test : A → Bool) where
   -- how many there are
-  unfoldable pub run : List ℕ → ℕ
+  unfoldable pub run : List A → ℕ
   run [] = 0
   run (b ∷ s) = elim (test b) [ true ↦ suc (run s) | false ↦ 0 ]
 
-  -- the first place from i on whose byte does not pass, or the end
-  unfoldable pub past : List ℕ → ℕ → ℕ
+  -- the first place from i on whose item does not pass, or the end
+  unfoldable pub past : List A → ℕ → ℕ
   past s i = i + run (drop i s)
 
-  -- at least k bytes stand from i on that all pass
-  abbrev pub runs : ℕ → List ℕ → ℕ → Bool
+  -- at least k items stand from i on that all pass
+  abbrev pub runs : ℕ → List A → ℕ → Bool
   runs k s i = leb k (run (drop i s))
 
-  -- past the whole strides of sixteen bytes from i on whose bytes all pass
-  unfoldable pub past_strides : List ℕ → ℕ → ℕ
+  -- past the whole strides of sixteen items from i on that all pass
+  unfoldable pub past_strides : List A → ℕ → ℕ
   past_strides s i = i + run (drop i s) / 16 * 16
-
--- at most top, outside lo to hi and outside from to to, and not `other`
-abbrev pub clear : ℕ → ℕ → ℕ → ℕ → ℕ → ℕ → ℕ → Bool
-clear top lo hi from to other b = leb b top && not (within lo hi b || within from to b || eqb b other)
-
--- it is m, or where `same` is not so, it is not
-abbrev pub like : ℕ → Bool → ℕ → Bool
-like m same b = beq (eqb b m) same
 
 -- ---- by leaps: what stands at the front says how far to leap and what to report, and so on to the end
 module _ {A : Type 0} (size : List ℕ → ℕ) (items : List ℕ → ℕ → List A) where
@@ -66,15 +55,15 @@ pub record Reached : Type 0 where
   pub inside : Bool
 
 module _ (close bar other : ℕ) where
-  unfoldable pub closing_step : Reached → ℕ → List ℕ → Step Reached Found
+  unfoldable pub closing_step : Reached → ℕ → List ℕ → Step Reached (Option ℕ)
   closing_step t b s =
-      cond (bare close b t.inside) (stop (At t.at))
-      (cond (not t.inside && (eqb b bar || eqb b other)) (stop Nothing)
+      cond (bare close b t.inside) (stop (Some t.at))
+      (cond (not t.inside && (eqb b bar || eqb b other)) (stop None)
       (next (record { at = t.at + 1; inside = not t.inside && escapes s })))
 
-  abbrev pub closing_from : List ℕ → Reached → Found
-  closing_from = scan closing_step (λ t. Nothing)
+  abbrev pub closing_from : List ℕ → Reached → Option ℕ
+  closing_from = scan closing_step (λ t. None)
 
   -- the place of the closing delimiter of a text that starts at place `at`
-  unfoldable pub closing : List ℕ → ℕ → Found
+  unfoldable pub closing : List ℕ → ℕ → Option ℕ
   closing s at = closing_from s (record { at = at; inside = false })

@@ -1,11 +1,10 @@
 -- The class of punctuation, the first unescaped delimiter and whole strides, by computation.
-use Rattle.std.specs.Prelude.{ℕ, ◌≡◌, refl, List, [], ◌∷◌, map, Bool, true, false, ◌&&◌, replicate, eqb}
+use Rattle.std.specs.Prelude.{ℕ, ◌≡◌, refl, List, [], ◌∷◌, map, Bool, true, false, not, ◌&&◌, ◌||◌, replicate, leb, eqb, Option, Some, None}
+use Rattle.std.specs.Bool.{beq}
 use Prim.Native.String.{String}
-use Rattle.scan.specs.Byte.{punctuation}
+use Rattle.scan.specs.Byte.{within, punctuation}
 use Rattle.scan.specs.Ascii.{ascii}
-use Rattle.scan.specs.Reading.{scan, run, clear, like, past_strides, closing_step, closing}
-use Rattle.scan.specs.declared.Found.{Found}
-use Rattle.scan.specs.declared.Found.TheVariants.{At, Nothing}
+use Rattle.scan.specs.Reading.{scan, run, past_strides, closing_step, closing}
 
 -- at each bound of the class, and beside it
 pub punctuation_bounds : map punctuation (33 ∷ 47 ∷ 58 ∷ 64 ∷ 91 ∷ 96 ∷ 123 ∷ 126 ∷ []) ≡ replicate 8 true
@@ -14,31 +13,31 @@ punctuation_bounds = refl
 pub beside_punctuation : map punctuation (0 ∷ 32 ∷ 48 ∷ 57 ∷ 65 ∷ 90 ∷ 97 ∷ 122 ∷ 127 ∷ 128 ∷ 255 ∷ []) ≡ replicate 11 false
 beside_punctuation = refl
 
-abbrev equal : Found → Found → Bool
-equal (At a) (At b) = eqb a b
-equal (At a) Nothing = false
-equal Nothing (At b) = false
-equal Nothing Nothing = true
+abbrev equal : Option ℕ → Option ℕ → Bool
+equal (Some a) (Some b) = eqb a b
+equal (Some a) None = false
+equal None (Some b) = false
+equal None None = true
 
 -- a text and where its `]` stands, with `[` barred
 pub record Sample : Type 0 where
   pub text : String
-  pub answer : Found
+  pub answer : Option ℕ
 
-abbrev sample : String → Found → Sample
+abbrev sample : String → Option ℕ → Sample
 sample s f = record { text = s; answer = f }
 
 abbrev pub samples : List Sample
 samples =
-    sample "foo]" (At 3)
-    ∷ sample "]" (At 0)
-    ∷ sample "foo" Nothing
-    ∷ sample "foo\\]" Nothing
-    ∷ sample "foo\\]]" (At 5)
-    ∷ sample "foo\\\\]" (At 5)
-    ∷ sample "fo[o]" Nothing
-    ∷ sample "fo\\[o]" (At 5)
-    ∷ sample "a\\b]" (At 3)
+    sample "foo]" (Some 3)
+    ∷ sample "]" (Some 0)
+    ∷ sample "foo" None
+    ∷ sample "foo\\]" None
+    ∷ sample "foo\\]]" (Some 5)
+    ∷ sample "foo\\\\]" (Some 5)
+    ∷ sample "fo[o]" None
+    ∷ sample "fo\\[o]" (Some 5)
+    ∷ sample "a\\b]" (Some 3)
     ∷ []
 
 abbrev hold : List Sample → Bool
@@ -48,6 +47,15 @@ hold (s ∷ more) = equal (closing 93 91 93 (ascii s.text) 0) s.answer && hold m
 pub samples_hold : hold samples ≡ true
 unfolding scan closing_step closing
 samples_hold = refl
+
+-- ---- tests of a byte to try them with
+-- at most top, outside lo to hi and outside from to to, and not `other`
+abbrev clear : ℕ → ℕ → ℕ → ℕ → ℕ → ℕ → ℕ → Bool
+clear top lo hi from to other b = leb b top && not (within lo hi b || within from to b || eqb b other)
+
+-- it is m, or where `same` is not so, it is not
+abbrev like : ℕ → Bool → ℕ → Bool
+like m same b = beq (eqb b m) same
 
 -- strides of bytes other than a to c, e to f, z and those past y; the text has 40 bytes
 abbrev pub strided : String → ℕ → ℕ

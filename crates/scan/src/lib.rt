@@ -1,16 +1,9 @@
 // Kinds of bytes, escapes, and the first unescaped delimiter.
 #![tactic(auto)]
 
-ghost use Rattle.std.specs.Prelude.{◌≡◌, ◌+◌, ◌≤◌, length, get_or, drop};
+ghost use Rattle.std.specs.Prelude.{◌≡◌, ◌+◌, ◌≤◌, length, get_or, set, drop, Bool};
 ghost use Rattle.scan.specs.Byte.{punctuation, blank, escapes};
-ghost use Rattle.scan.specs.Reading.{clear, like, runs, past_strides, closing};
-
-// A place, or none.
-#[derive(Clone, Copy)]
-pub enum Found {
-    At(usize),
-    Nothing,
-}
+ghost use Rattle.scan.specs.Reading.{runs, past, past_strides, closing};
 
 // ASCII punctuation.
 pub fn is_punctuation(b: u8) -> bool
@@ -26,14 +19,27 @@ pub fn is_blank(b: u8) -> bool
     (b == 32) | (b == 9) | (b == 10)
 }
 
+// The item at `i`, and `absent` past the end.
+pub fn item_at<T: Copy>(s: &[T], i: usize, absent: T) -> T
+    ensures { result ≡ get_or s.now i absent }
+{
+    s.get(i).copied().unwrap_or(absent)
+}
+
 // The byte at `i`, and 0 past the end.
 pub fn peek(s: &[u8], i: usize) -> u8
     ensures { result ≡ get_or s.now i 0 }
 {
+    item_at(s, i, 0)
+}
+
+// Stores `x` at `i`, if there is such a place.
+pub fn put<T: Copy>(s: &mut [T], i: usize, x: T)
+    ensures { s.new ≡ set s.old i x }
+{
     if i < s.len() {
-        return s[i];
+        s[i] = x;
     }
-    0
 }
 
 // Whether an escape stands at `i`.
@@ -50,75 +56,53 @@ pub fn escape_at(s: &[u8], i: usize) -> bool
 }
 
 // The place of the first unescaped `close` from `at` on, where neither `bar` nor `other` stands unescaped before it.
-pub fn closing_place(s: &[u8], at: usize, close: u8, bar: u8, other: u8) -> Found
+pub fn closing_place(s: &[u8], at: usize, close: u8, bar: u8, other: u8) -> Option<usize>
     ensures { result ≡ closing close bar other (drop at s.now) at }
 {
-    let mut i = at;
     let mut inside = false;
-    while i < s.len() {
+    for i in at..s.len() {
         let b = s[i];
         if !inside & (b == close) {
-            return Found::At(i);
+            return Some(i);
         }
         if !inside & ((b == bar) | (b == other)) {
-            return Found::Nothing;
+            return None;
         }
         inside = !inside & escape_at(s, i);
-        i += 1;
     }
-    Found::Nothing
+    None
 }
 
-// Whether `b` is at most `top`, outside `lo` to `hi` and outside `from` to `to`, and not `other`.
-fn is_clear(b: u8, top: u8, lo: u8, hi: u8, from: u8, to: u8, other: u8) -> bool
-    ensures { result ≡ clear top lo hi from to other b }
-{
-    (b <= top) & !((lo <= b) & (b <= hi) | (from <= b) & (b <= to) | (b == other))
+// A class of items.
+pub trait Class<T> {
+    ghost has: { Self → T → Bool };
+
+    // Whether an item is of the class.
+    fn holds(&self, x: T) -> bool
+        ensures { result ≡ has self.now x };
 }
 
-// Whether the four bytes from `i` on are clear.
-fn four_clear(s: &[u8], i: usize, top: u8, lo: u8, hi: u8, from: u8, to: u8, other: u8) -> bool
-    requires { i + 4 ≤ length s.now }
-    ensures { result ≡ runs (clear top lo hi from to other) 4 s.now i }
+// Whether all items pass. None decides alone, so that they are compared at once.
+fn all_pass<T: Copy, C: Class<T>>(s: &[T], class: &C) -> bool
+    ensures { result ≡ runs (C.has class.now) (length s.now) s.now 0 }
 {
-    is_clear(s[i], top, lo, hi, from, to, other)
-        & is_clear(s[i + 1], top, lo, hi, from, to, other)
-        & is_clear(s[i + 2], top, lo, hi, from, to, other)
-        & is_clear(s[i + 3], top, lo, hi, from, to, other)
-}
-
-// Whether sixteen bytes stand from `i` on and are clear. No byte decides alone, so that they are compared at once.
-fn sixteen_clear(s: &[u8], i: usize, top: u8, lo: u8, hi: u8, from: u8, to: u8, other: u8) -> bool
-    ensures { result ≡ runs (clear top lo hi from to other) 16 s.now i }
-{
-    if s.len() < 16 {
-        return false;
+    let mut all = true;
+    for x in s {
+        all = all & class.holds(*x);
     }
-    if s.len() - 16 < i {
-        return false;
-    }
-    four_clear(s, i, top, lo, hi, from, to, other)
-        & four_clear(s, i + 4, top, lo, hi, from, to, other)
-        & four_clear(s, i + 8, top, lo, hi, from, to, other)
-        & four_clear(s, i + 12, top, lo, hi, from, to, other)
+    all
 }
 
-// Past the whole strides of sixteen clear bytes from `at` on.
-pub fn past_strides(
-    s: &[u8],
-    at: usize,
-    top: u8,
-    lo: u8,
-    hi: u8,
-    from: u8,
-    to: u8,
-    other: u8,
-) -> usize
-    ensures { result ≡ past_strides (clear top lo hi from to other) s.now at }
+// Past the whole strides of sixteen items from `at` on that all pass.
+pub fn past_strides<T: Copy, C: Class<T>>(s: &[T], at: usize, class: &C) -> usize
+    ensures { result ≡ past_strides (C.has class.now) s.now at }
 {
     let mut i = at;
     while i < s.len() {
-        if !sixteen_clear(s, i, top, lo, hi, from, to, other) {
+        if s.len() - i < 16 {
+            return i;
+        }
+        if !all_pass(&s[i..i + 16], class) {
             return i;
         }
         i += 16;
@@ -126,43 +110,33 @@ pub fn past_strides(
     i
 }
 
-// Whether the four bytes from `i` on are `b`, or where `same` is not so, none of them is.
-fn four_like(s: &[u8], i: usize, b: u8, same: bool) -> bool
-    requires { i + 4 ≤ length s.now }
-    ensures { result ≡ runs (like b same) 4 s.now i }
+// The first place from `at` on whose item does not pass; the end is one.
+pub fn past<T: Copy, C: Class<T>>(s: &[T], at: usize, class: &C) -> usize
+    ensures { result ≡ past (C.has class.now) s.now at }
 {
-    ((s[i] == b) == same)
-        & ((s[i + 1] == b) == same)
-        & ((s[i + 2] == b) == same)
-        & ((s[i + 3] == b) == same)
-}
-
-// Whether sixteen bytes stand from `i` on and are so.
-fn sixteen_like(s: &[u8], i: usize, b: u8, same: bool) -> bool
-    ensures { result ≡ runs (like b same) 16 s.now i }
-{
-    if s.len() < 16 {
-        return false;
-    }
-    if s.len() - 16 < i {
-        return false;
-    }
-    four_like(s, i, b, same)
-        & four_like(s, i + 4, b, same)
-        & four_like(s, i + 8, b, same)
-        & four_like(s, i + 12, b, same)
-}
-
-// Past the whole strides of sixteen bytes from `at` on that are all `b`, or where `same` is not so, of which none is.
-pub fn past_like(s: &[u8], at: usize, b: u8, same: bool) -> usize
-    ensures { result ≡ past_strides (like b same) s.now at }
-{
-    let mut i = at;
-    while i < s.len() {
-        if !sixteen_like(s, i, b, same) {
+    for i in at..s.len() {
+        if !class.holds(s[i]) {
             return i;
         }
-        i += 16;
     }
-    i
+    at.max(s.len())
+}
+
+// The same, by strides.
+pub fn past_long<T: Copy, C: Class<T>>(s: &[T], at: usize, class: &C) -> usize
+    ensures { result ≡ past (C.has class.now) s.now at }
+{
+    past(s, past_strides(s, at, class), class)
+}
+
+// The same. Strides are tried once `N` items are passed: most runs are shorter.
+pub fn past_after<T: Copy, C: Class<T>, const N: usize>(s: &[T], at: usize, class: &C) -> usize
+    ensures { result ≡ past (C.has class.now) s.now at }
+{
+    let near = at.saturating_add(N).min(s.len());
+    let i = past(&s[..near], at, class);
+    if i < near {
+        return i;
+    }
+    past_long(s, i, class)
 }

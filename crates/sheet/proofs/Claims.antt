@@ -1,4 +1,5 @@
 -- What a sheet leaves as it is.
+use Rattle.std.specs.Prelude.{None, Option as Place, Some, Err, Ok}
 use Prim.Native.Nat.{ℕ, zero, suc, ◌≤◌, ◌<◌}
 use native.Mathlib.Omega.{arith}
 use mathlib.Core.Path.{◌≡◌, refl, sym, ap, ap₂, ◌∙◌, subst}
@@ -11,10 +12,7 @@ use lib.Dec.{ltb, eqb}
 use Rattle.scan.proofs.Test.{by}
 use Rattle.scan.specs.Byte.{within}
 use Rattle.scan.specs.Member.{In}
-use Rattle.scan.specs.declared.Found.{Found}
-use Rattle.scan.specs.declared.Found.TheVariants as found
-use Rattle.text.specs.declared.Checked.{Checked as Check}
-use Rattle.text.specs.declared.Checked.TheVariants as text
+use Rattle.text.specs.declared.Fault.TheVariants as text
 use Rattle.text.specs.Reading as one
 use Rattle.texts.specs.Texts.{Texts, texts}
 use Rattle.texts.proofs.Refusals.{by_both}
@@ -36,16 +34,17 @@ use Rattle.note.proofs.Markings.{marked, list_is_read}
 use Rattle.note.proofs.References.{references_refer}
 use Rattle.page.specs.Reading as both_page
 use Rattle.paragraphs.specs.Spans.{spans_filled}
-use Rattle.notice.specs.declared.Reading.{Reading}
+use Rattle.notice.specs.Answers.{Reading}
 use Rattle.notice.specs.Answers as reader
 use Rattle.notice.specs.Reading as reader_readings
 use Rattle.notice.proofs.Order.{by_check}
 use Rattle.notice.proofs.Given.{given_or_kept}
-use Rattle.rendering.specs.declared.Rendering.{Rendering}
+use Rattle.rendering.specs.Answers.{Rendering}
 use Rattle.rendering.specs.Answers as writer
 use Rattle.rendering.specs.Reading as writer_readings
 use Rattle.rendering.proofs.Alike.{same_named}
-use Rattle.enquiry.specs.declared.Enquiry.{Enquiry}
+use Rattle.enquiry.specs.declared.Refusal.{Refusal}
+use Rattle.enquiry.specs.Enquiry.{Enquiry}
 use Rattle.enquiry.specs.Enquiry as enquiries
 use Rattle.enquiry.specs.Reading as enquiry_readings
 use Rattle.enquiry.proofs.Lookup.{joined_labels}
@@ -62,7 +61,7 @@ repeated_sheet T there = record { rows_of_spans = span_rows_alone T there; first
 
 -- ---- the empty sheet
 -- it is good, and has no definition
-empty_good : one.check_of [] ≡ text.Good
+empty_good : one.check_of [] ≡ Ok tt
 unfolding one.check_of one.first_bad one.first_bad_past
 empty_good = refl
 
@@ -96,11 +95,11 @@ module _ (s : List ℕ) where
   count = omega (arith, length_joined T, no_definitions)
 
   -- ---- the reader
-  by_text : (c : Check) → one.check_of s ≡ c → (d n : ℕ) → reader_readings.reading_of false T d n ≡ alone_answers.reading_of s d n
+  by_text : (c : one.Checked) → one.check_of s ≡ c → (d n : ℕ) → reader_readings.reading_of false T d n ≡ alone_answers.reading_of s d n
   unfolding alone_answers.reading_of
-  by_text text.Good e d n = by_check false T d n _ (by_both T text.Good text.Good e empty_good) ∙ rw (e, count, same.first_too_deep, same.rows_of_spans) refl
-  by_text (text.Long k) e d n = by_check false T d n _ (by_both T (text.Long k) text.Good e empty_good) ∙ rw e refl
-  by_text (text.Bad k) e d n = by_check false T d n _ (by_both T (text.Bad k) text.Good e empty_good) ∙ rw e refl
+  by_text (Ok done) e d n = by_check false T d n _ (by_both T (Ok tt) (Ok tt) e empty_good) ∙ rw (e, count, same.first_too_deep, same.rows_of_spans) refl
+  by_text (Err (text.Long k)) e d n = by_check false T d n _ (by_both T (Err (text.Long k)) (Ok tt) e empty_good) ∙ rw e refl
+  by_text (Err (text.Bad k)) e d n = by_check false T d n _ (by_both T (Err (text.Bad k)) (Ok tt) e empty_good) ∙ rw e refl
 
   reading : (d n : ℕ) → reader_readings.reading_of false T d n ≡ alone_answers.reading_of s d n
   reading = by_text (one.check_of s) refl
@@ -115,10 +114,10 @@ module _ (s : List ℕ) where
       depth (some place) = refl
       depth none = by (ltb m n) (λ q. rw q refl) (λ q. rw q refl)
 
-  named_by : (c : Check) (r : Reading) → Named r → Named (alone_answers.refused_or c r)
-  named_by text.Good r h = h
-  named_by (text.Long k) r h = refl
-  named_by (text.Bad k) r h = refl
+  named_by : (c : one.Checked) (r : Reading) → Named r → Named (alone_answers.refused_or c r)
+  named_by (Ok done) r h = h
+  named_by (Err (text.Long k)) r h = refl
+  named_by (Err (text.Bad k)) r h = refl
 
   reading_named : (d n : ℕ) → Named (reader_readings.reading_of false T d n)
   unfolding alone_answers.reading_of
@@ -163,14 +162,14 @@ module _ (s : List ℕ) where
   entry_at (d ∷ ds) zero = refl
   entry_at (d ∷ ds) (suc k) = entry_at ds k
 
-  found_alike : (f : Found) → enquiry_readings.answer_at (listed_in 0 (definitions s)) f ≡ alone_answers.answer_at (definitions s) f
-  found_alike (found.At k) = ap enquiry_readings.answer_by (entry_at (definitions s) k)
-  found_alike found.Nothing = refl
+  found_alike : (f : Place ℕ) → enquiry_readings.or_undefined (enquiry_readings.answer_at (listed_in 0 (definitions s)) f) ≡ alone_answers.answer_at (definitions s) f
+  found_alike (Some k) = ap (λ (j : Listed). enquiry_readings.or_undefined (Some (enquiry_readings.answer_by j))) (entry_at (definitions s) k)
+  found_alike None = refl
 
   labels_are : labels_of T (joined T) ≡ alone.labels s
   labels_are = joined_labels T ∙ rw (nothing_defined (definitions []) no_definitions) (append-nil (alone.labels s))
 
-  looked_up_lem : (label : List ℕ) → enquiry_readings.answer_for T label ≡ alone_answers.answer_at (definitions s) (first_match (alone.labels s) label)
+  looked_up_lem : (label : List ℕ) → enquiry_readings.or_undefined (enquiry_readings.answer_for T label) ≡ alone_answers.answer_at (definitions s) (first_match (alone.labels s) label)
   unfolding enquiry_readings.answer_for enquiry_readings.answer_in
   looked_up_lem label = rw (labels_are, the_list) (found_alike (first_match (alone.labels s) label))
 
@@ -178,11 +177,11 @@ module _ (s : List ℕ) where
   labelled label true = looked_up_lem label
   labelled label false = refl
 
-  enquiry_by : (label : List ℕ) (c : Check) → one.check_of s ≡ c → enquiry_readings.enquiry_of T label ≡ alone_answers.enquiry_of s label
+  enquiry_by : (label : List ℕ) (c : one.Checked) → one.check_of s ≡ c → enquiry_readings.enquiry_of T label ≡ alone_answers.enquiry_of s label
   unfolding enquiry_readings.enquiry_of alone_answers.enquiry_of
-  enquiry_by label text.Good e = rw (by_both T text.Good text.Good e empty_good, e) (labelled label (enquiry_readings.good_label label))
-  enquiry_by label (text.Long k) e = rw (by_both T (text.Long k) text.Good e empty_good, e) refl
-  enquiry_by label (text.Bad k) e = rw (by_both T (text.Bad k) text.Good e empty_good, e) refl
+  enquiry_by label (Ok done) e = rw (by_both T (Ok tt) (Ok tt) e empty_good, e) (labelled label (enquiry_readings.good_label label))
+  enquiry_by label (Err (text.Long k)) e = rw (by_both T (Err (text.Long k)) (Ok tt) e empty_good, e) refl
+  enquiry_by label (Err (text.Bad k)) e = rw (by_both T (Err (text.Bad k)) (Ok tt) e empty_good, e) refl
 
   enquiry : (label : List ℕ) → enquiry_readings.enquiry_of T label ≡ alone_answers.enquiry_of s label
   enquiry label = enquiry_by label (one.check_of s) refl
@@ -190,18 +189,18 @@ module _ (s : List ℕ) where
   abbrev AboutNote : Enquiry → Type 0
   AboutNote e = enquiries.named_of e ≡ 0
 
-  found_named : (f : Found) → AboutNote (alone_answers.answer_at (definitions s) f)
-  found_named (found.At k) = refl
-  found_named found.Nothing = refl
+  found_named : (f : Place ℕ) → AboutNote (alone_answers.answer_at (definitions s) f)
+  found_named (Some k) = refl
+  found_named None = refl
 
   labelled_named : (label : List ℕ) (b : Bool) → AboutNote (alone_answers.labelled s label b)
   labelled_named label true = found_named (first_match (alone.labels s) label)
   labelled_named label false = refl
 
-  checked_named : (label : List ℕ) (c : Check) → AboutNote (alone_answers.checked s label c)
-  checked_named label text.Good = labelled_named label (enquiry_readings.good_label label)
-  checked_named label (text.Long k) = refl
-  checked_named label (text.Bad k) = refl
+  checked_named : (label : List ℕ) (c : one.Checked) → AboutNote (alone_answers.checked s label c)
+  checked_named label (Ok done) = labelled_named label (enquiry_readings.good_label label)
+  checked_named label (Err (text.Long k)) = refl
+  checked_named label (Err (text.Bad k)) = refl
 
   enquiry_named : (label : List ℕ) → AboutNote (enquiry_readings.enquiry_of T label)
   unfolding alone_answers.enquiry_of

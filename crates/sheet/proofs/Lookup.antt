@@ -1,4 +1,5 @@
 -- Labels after others that already have an equal one among these are never found.
+use Rattle.std.specs.Prelude.{None, Option, Some}
 use Prim.Native.Nat.{ℕ, ◌+◌, ◌-◌, ◌<◌}
 use native.Mathlib.Omega.{arith}
 use mathlib.Core.Path.{◌≡◌, refl, sym, ap, subst, ◌∙◌}
@@ -8,8 +9,6 @@ use lib.Dec.{ltb}
 use lib.ListN.{length, get_or, length-append, get_or-append}
 use lib.Seq.{get_or-append-add}
 use Rattle.scan.proofs.Test.{by}
-use Rattle.scan.specs.declared.Found.{Found}
-use Rattle.scan.specs.declared.Found.TheVariants.{At, Nothing}
 use Rattle.matching.specs.Form.{Equal}
 use Rattle.matching.proofs.Equality.{matches_equal, matches_trans}
 use Rattle.row.specs.First.{FirstEqual, NoneEqual}
@@ -46,9 +45,9 @@ module _ (ls more : List (List ℕ)) (label : List ℕ) where
         none_after n (i - length ls) (omega (arith, length-append ls more))
         (subst (λ (l : List ℕ). Equal l label) (ap (λ (j : ℕ). get_or (ls ++ more) j []) at ∙ get_or-append-add ls more (i - length ls) []) e))
 
-    by_found : (f : Found) → first_match ls label ≡ f → first_match (ls ++ more) label ≡ f
-    by_found (At k) e = (first_equal (ls ++ more) label k).1 (first_in_front k ((first_equal ls label k).0 e))
-    by_found Nothing e = (none_equal (ls ++ more) label).1 (none_there ((none_equal ls label).0 e))
+    by_found : (f : Option ℕ) → first_match ls label ≡ f → first_match (ls ++ more) label ≡ f
+    by_found (Some k) e = (first_equal (ls ++ more) label k).1 (first_in_front k ((first_equal ls label k).0 e))
+    by_found None e = (none_equal (ls ++ more) label).1 (none_there ((none_equal ls label).0 e))
 
     pub same_found : first_match (ls ++ more) label ≡ first_match ls label
     same_found = by_found (first_match ls label) refl

@@ -1,4 +1,5 @@
 -- Where each label of the sheet has an equal one in the note, the span rows and the first bracket too many are those of the note alone.
+use Rattle.std.specs.Prelude.{None, Option as Place, Some}
 use Prim.Native.Nat.{ℕ, ◌+◌, ◌≤◌, ◌<◌}
 use native.Mathlib.Omega.{arith}
 use mathlib.Core.Path.{◌≡◌, refl, ap, ap₂, fun_ext, ◌∙◌}
@@ -7,8 +8,6 @@ use mathlib.Core.List.{List, [], ◌∷◌, ◌++◌, map}
 use mathlib.Core.Bool.{Bool, true, false}
 use lib.ListN.{length, length-map, get_or-append}
 use Rattle.scan.specs.Member.{In}
-use Rattle.scan.specs.declared.Found.{Found}
-use Rattle.scan.specs.declared.Found.TheVariants.{At, Nothing}
 use Rattle.texts.specs.Texts.{Texts}
 use Rattle.block.specs.Block.{Placed}
 use Rattle.label.specs.Reading.{is_label}
@@ -24,8 +23,7 @@ use Rattle.inline.specs.Tails.{Tail, inline, full, collapsed, shortcut, length_o
 use Rattle.inline.specs.Rows.{defined, target_of}
 use Rattle.inline.specs.ReadingPieces.{piece_from}
 use Rattle.inline.specs.ReadingTails.{inline_of, label_after, empty_after, full_by, short_by, text_tail, reference_by, tail_by, tail_of}
-use Rattle.inline.specs.declared.InlineTail.{InlineTail}
-use Rattle.inline.specs.declared.InlineTail.TheVariants as inlines
+use Rattle.inline.specs.declared.InlineParts.{InlineParts}
 use Rattle.inline.specs.Reading.{tail_at, grammar}
 use Rattle.inline.specs.ReadingRows as paragraph
 use Rattle.inline.specs.ReadingRows.{span_row}
@@ -47,13 +45,13 @@ module _ (ls ks : List (List ℕ)) (same : (label : List ℕ) → first_match ls
   text_same text s true e = rw (e, text_tail) (ap (short_by (empty_after s)) (same text))
   text_same text s false e = rw (e, text_tail) refl
 
-  reference_same : (text s : List ℕ) (f : Found) → reference_by ls text s f ≡ reference_by ks text s f
-  reference_same text s (At e) = ap (full_by (e + 1)) (same _)
-  reference_same text s Nothing = text_same text s (is_label text) refl
+  reference_same : (text s : List ℕ) (f : Place ℕ) → reference_by ls text s f ≡ reference_by ks text s f
+  reference_same text s (Some e) = ap (full_by (e + 1)) (same _)
+  reference_same text s None = text_same text s (is_label text) refl
 
-  by_inline : (text s : List ℕ) (at : ℕ) (i : InlineTail) → tail_by ls text s at i ≡ tail_by ks text s at i
-  by_inline text s at (inlines.Parts q) = refl
-  by_inline text s at inlines.Nothing = reference_same text s (label_after s)
+  by_inline : (text s : List ℕ) (at : ℕ) (i : Place InlineParts) → tail_by ls text s at i ≡ tail_by ks text s at i
+  by_inline text s at (Some q) = refl
+  by_inline text s at None = reference_same text s (label_after s)
 
   tail_same : (text s : List ℕ) (at : ℕ) → tail_of ls text s at ≡ tail_of ks text s at
   unfolding tail_of

@@ -13,7 +13,7 @@ use Rattle.note.specs.Claims.{looked_up}
 use Rattle.page.specs.Reading as both_page
 use Rattle.notice.specs.Answers as reader
 use Rattle.notice.specs.Reading as reader_readings
-use Rattle.rendering.specs.declared.Rendering.{Rendering}
+use Rattle.rendering.specs.Answers.{Rendering}
 use Rattle.rendering.specs.Answers as writer
 use Rattle.rendering.specs.Reading as writer_readings
 use Rattle.enquiry.specs.Enquiry as enquiries

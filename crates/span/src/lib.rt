@@ -1,15 +1,15 @@
-// The span table: rows of eleven 32-bit numbers in a lent slice.
+// The span table: rows of eleven 32-bit numbers in a lent slice, which C lends and reads.
 #![tactic(auto)]
 
-ghost use Rattle.std.specs.Prelude.{◌≡◌, ◌+◌, ◌<◌, ◌^◌, length};
+ghost use Rattle.std.specs.Prelude.{◌≡◌, ◌+◌, ◌<◌, ◌^◌, length, eqb, leb};
 ghost use Rattle.row.specs.Row.{SmallPart};
-ghost use Rattle.span.specs.Row.{code_span_row, inline_row, reference_row, full_row, collapsed_row, shortcut_row, inline_image_row, full_image_row, collapsed_image_row, shortcut_image_row, Small, whole_rows, stored_half, stored_on};
+ghost use Rattle.span.specs.Row.{code_span_kind, inline_image_kind, code_span_row, inline_row, reference_row, full_row, collapsed_row, shortcut_row, inline_image_row, full_image_row, collapsed_image_row, shortcut_image_row, Small, whole_rows, stored_half, stored_on};
 ghost use Rattle.span.specs.Reading.{span_at};
 
 use row::Range;
 
-// A code span, a link or an image: its kind, from where to where it runs, the text between its backtick strings or brackets, the
-// number of its definition (from 1; 0 if none), and its target.
+// A code span, a link or an image: the number of its kind, from where to where it runs, the text between its backtick strings or brackets,
+// the number of its definition (from 1; 0 if none), and its target. The numbers are those that C reads in the row (`numbers_on`).
 #[derive(Clone, Copy)]
 pub struct Span {
     pub kind: u32,
@@ -24,6 +24,7 @@ impl Span {
     // The numbers of a row.
     pub const WIDTH: usize = 11;
 
+    // No enum: rows hold the numbers that C reads, any may stand in a table read back, and the project asks for constants with a constructor for each kind.
     pub const CODE_SPAN: u32 = 1;
 
     pub const INLINE: u32 = 2;
@@ -155,6 +156,19 @@ impl Span {
         ensures { result ≡ shortcut_image_row whole text k destination title }
     {
         Span::reference(Span::SHORTCUT_IMAGE, whole, text, k, destination, title)
+    }
+
+    pub fn is_code_span(&self) -> bool
+        ensures { result ≡ eqb self.now.kind code_span_kind }
+    {
+        self.kind == Span::CODE_SPAN
+    }
+
+    // An image's number is none below the first of images.
+    pub fn is_image(&self) -> bool
+        ensures { result ≡ leb inline_image_kind self.now.kind }
+    {
+        Span::INLINE_IMAGE <= self.kind
     }
 }
 

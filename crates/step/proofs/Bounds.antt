@@ -1,4 +1,5 @@
 -- What a tail names lies within the paragraph and the definitions, so that the numbers of its row are 32-bit numbers.
+use Rattle.std.specs.Prelude.{None, Option as Found, Some}
 use Prim.Native.Nat.{ℕ, zero, suc, ◌+◌, ◌-◌, ◌≤◌, ◌<◌, ◌^◌}
 use native.Mathlib.Omega.{arith}
 use mathlib.Core.Path.{◌≡◌, refl, sym, ap, ◌∙◌, subst}
@@ -8,8 +9,6 @@ use mathlib.Core.List.{List}
 use lib.Dec.{eqb}
 use lib.ListN.{length, get_or, take, drop, length-drop, length-map}
 use Rattle.scan.proofs.Test.{by}
-use Rattle.scan.specs.declared.Found.{Found}
-use Rattle.scan.specs.declared.Found.TheVariants.{At, Nothing}
 use Rattle.label.specs.Reading.{is_label}
 use Rattle.marking.specs.Marking.{role, Piece}
 use Rattle.texts.specs.Texts.{Texts, text_of}
@@ -25,15 +24,12 @@ use Rattle.inline.specs.ReadingTails.{inline_of, label_after, empty_after, full_
 use Rattle.inline.proofs.TailBounds.{PartIn, InlineWithin, inline_of_within}
 use Rattle.inline.specs.declared.InlineParts.{InlineParts}
 use Rattle.inline.specs.Rows.{from_note?}
-use Rattle.inline.specs.declared.InlineTail.{InlineTail}
-use Rattle.inline.specs.declared.InlineTail.TheVariants as inlines
 use Rattle.inline.specs.Reading.{tail_at}
 use Rattle.inline.proofs.Computing.{tail_within}
 use Rattle.parens.proofs.Parts.{part_whole}
 use Rattle.tail.specs.declared.Way.{Way}
 use Rattle.tail.specs.declared.Way.TheVariants as ways
 use Rattle.tail.specs.declared.ReadTail.{ReadTail}
-use Rattle.tail.specs.declared.Ending.{Ending}
 use Rattle.tail.specs.Ending.{labels_in, shown_by, shown, shown?}
 use Rattle.link.specs.Reading.{text_from, pair_row, Names}
 use Rattle.step.specs.Promise.{is_image, open_end, Pair, Bounds}
@@ -58,40 +54,38 @@ Bounded? m n none = Unit {0}
 Bounded? m n (some t) = Bounded m n t
 
 -- ---- an inline tail
-moved_in : (n at : ℕ) (r : Range) → PartIn r n → PartTo (at + n) (moved at r)
-moved_in n at r i = by (eqb r.start 0) (λ e. rw e tt) (λ e. rw e (omega (arith, i.ordered, i.inside)))
+moved_in : (n m at : ℕ) (r : Found Range) → PartIn r n → n ≤ m → PartTo (at + m) (moved at r)
+moved_in n m at (Some r) i h = (omega (arith, i.ordered, i.inside), omega (arith, i.inside))
+moved_in n m at None i h = tt
 
 parts_in : (s : List ℕ) (q : InlineParts) (at : ℕ) → InlineWithin s q → PartTo (at + length s) (moved at q.destination) × PartTo (at + length s) (moved at q.title)
-parts_in s q at w = (
-  moved_in (length s) at q.destination (record { ordered = w.destination.ordered; inside = omega (arith, w.destination.inside, w.size) }),
-  moved_in (length s) at q.title (record { ordered = w.title.ordered; inside = omega (arith, w.title.inside, w.size) }),
-)
+parts_in s q at w = (moved_in q.size (length s) at q.destination w.destination w.size, moved_in q.size (length s) at q.title w.title w.size)
 
 -- ---- references
 module _ (labels : List (List ℕ)) (n : ℕ) where
-  match_in : (label : List ℕ) (k : ℕ) → first_match labels label ≡ At k → k < length labels
+  match_in : (label : List ℕ) (k : ℕ) → first_match labels label ≡ Some k → k < length labels
   match_in label k e = ((first_equal labels label k).0 e).within
 
-  full_in : (size : ℕ) (label : List ℕ) (f : Found) → first_match labels label ≡ f → Bounded? (length labels) n (full_by size f)
-  full_in size label (At k) e = match_in label k e
-  full_in size label Nothing e = tt
+  full_in : (size : ℕ) (label : List ℕ) (f : Found ℕ) → first_match labels label ≡ f → Bounded? (length labels) n (full_by size f)
+  full_in size label (Some k) e = match_in label k e
+  full_in size label None e = tt
 
-  short_in : (empty : Bool) (label : List ℕ) (f : Found) → first_match labels label ≡ f → Bounded? (length labels) n (short_by empty f)
-  short_in true label (At k) e = match_in label k e
-  short_in false label (At k) e = match_in label k e
-  short_in empty label Nothing e = tt
+  short_in : (empty : Bool) (label : List ℕ) (f : Found ℕ) → first_match labels label ≡ f → Bounded? (length labels) n (short_by empty f)
+  short_in true label (Some k) e = match_in label k e
+  short_in false label (Some k) e = match_in label k e
+  short_in empty label None e = tt
 
   text_in : (text s : List ℕ) → Bounded? (length labels) n (text_tail labels text s)
   unfolding text_tail
   text_in text s = by (is_label text) (λ e. rw (e, text_tail) (short_in (empty_after s) text (first_match labels text) refl)) (λ e. rw (e, text_tail) tt)
 
-  reference_in : (text s : List ℕ) (f : Found) → Bounded? (length labels) n (reference_by labels text s f)
-  reference_in text s (At e) = full_in (e + 1) (take (e - 1) (drop 1 s)) (first_match labels (take (e - 1) (drop 1 s))) refl
-  reference_in text s Nothing = text_in text s
+  reference_in : (text s : List ℕ) (f : Found ℕ) → Bounded? (length labels) n (reference_by labels text s f)
+  reference_in text s (Some e) = full_in (e + 1) (take (e - 1) (drop 1 s)) (first_match labels (take (e - 1) (drop 1 s))) refl
+  reference_in text s None = text_in text s
 
-tail_in : (labels : List (List ℕ)) (text s : List ℕ) (at : ℕ) (f : InlineTail) → inline_of s ≡ f → Bounded? (length labels) (at + length s) (tail_by labels text s at f)
-tail_in labels text s at (inlines.Parts q) e = parts_in s q at (inline_of_within s q e)
-tail_in labels text s at inlines.Nothing e = reference_in labels (at + length s) text s (label_after s)
+tail_in : (labels : List (List ℕ)) (text s : List ℕ) (at : ℕ) (f : Found InlineParts) → inline_of s ≡ f → Bounded? (length labels) (at + length s) (tail_by labels text s at f)
+tail_in labels text s at (Some q) e = parts_in s q at (inline_of_within s q e)
+tail_in labels text s at None e = reference_in labels (at + length s) text s (label_after s)
 
 pub tail_bounded : (labels : List (List ℕ)) (text s : List ℕ) (at : ℕ) (t : Tail) → tail_of labels text s at ≡ some t → Bounded (length labels) (at + length s) t
 unfolding tail_of
@@ -168,7 +162,7 @@ pub tail_here : (p : List ℕ) (labels : List (List ℕ)) (o c : ℕ) → tail_o
 tail_here p labels o c = ap (λ (l : List ℕ). tail_of labels (take (c - o) (drop o p)) l (c + 1)) (part_whole p (c + 1))
 
 -- what the tail reader answered, r, is x
-pub told_of : (p : List ℕ) (labels : List (List ℕ)) (o c : ℕ) {from : ℕ} → from ≡ open_end p o → {r x : Ending} → r ≡ x → shown? (c + 1) r ≡ tail_at p labels from c
+pub told_of : (p : List ℕ) (labels : List (List ℕ)) (o c : ℕ) {from : ℕ} → from ≡ open_end p o → {r x : Found ReadTail} → r ≡ x → shown? (c + 1) r ≡ tail_at p labels from c
     → shown? (c + 1) x ≡ tail_at p labels (open_end p o) c
 told_of p labels o c ef e told = sym (ap (shown? (c + 1)) e) ∙ told ∙ ap (λ (n : ℕ). tail_at p labels n c) ef
 

@@ -1,4 +1,5 @@
 -- Backticks at a place: a code span to the end of the run that closes it, or plain text.
+use Rattle.std.specs.Prelude.{None, Option, Some}
 use Prim.Native.Nat.{ℕ, ◌+◌, ◌-◌, ◌≤◌, ◌<◌, ◌^◌}
 use native.Mathlib.Omega.{arith}
 use mathlib.Core.Path.{◌≡◌, sym, ap, ◌∙◌}
@@ -7,8 +8,6 @@ use mathlib.Core.Bool.{false}
 use borrow.Author.Tests.{eq-eqb}
 use lib.ListN.{length, get_or, drop, length-drop}
 use Rattle.scan.specs.Reading.{run, past}
-use Rattle.scan.specs.declared.Found.{Found}
-use Rattle.scan.specs.declared.Found.TheVariants.{At, Nothing}
 use Rattle.marking.specs.Marking.{code, plain}
 use Rattle.marking.specs.Spans.{code_span}
 use Rattle.row.specs.declared.Range.{Range}
@@ -55,11 +54,11 @@ module _ (p : List ℕ) (w : Walk) (b : BacktickAt p w) (first : ℕ) (ea : firs
       ∙ ap (ticked p w.at) (sym run_is)
       ∙ ap (λ (a : ℕ). span_or_text w.at a (closing_run n (drop a p) a)) e
 
-  module _ {f : Found} (ef : f ≡ closing_run n (drop first p) first) where
-    pub text_here : f ≡ Nothing → piece_from p w.at ≡ piece plain w.at first
+  module _ {f : Option ℕ} (ef : f ≡ closing_run n (drop first p) first) where
+    pub text_here : f ≡ None → piece_from p w.at ≡ piece plain w.at first
     text_here q = ticks ∙ ap (span_or_text w.at first) (sym ef ∙ q)
 
-    module _ (e : ℕ) (q : f ≡ At e) where
+    module _ (e : ℕ) (q : f ≡ Some e) where
       pub code_here : piece_from p w.at ≡ piece code w.at e
       code_here = ticks ∙ ap (span_or_text w.at first) (sym ef ∙ q)
 

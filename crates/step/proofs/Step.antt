@@ -1,4 +1,5 @@
 -- One step past a piece, by what the piece comes to.
+use Rattle.std.specs.Prelude.{Option as Found, Some}
 use Prim.Native.Nat.{ℕ, ◌+◌, ◌<◌, ◌^◌}
 use native.Mathlib.Omega.{arith}
 use mathlib.Core.Path.{◌≡◌, refl, sym, ap, ◌∙◌, subst}
@@ -25,7 +26,7 @@ use Rattle.inline.specs.ReadingPieces.{piece, piece_from}
 use Rattle.inline.specs.Reading.{grammar, tail_at}
 use Rattle.inline.specs.ReadingRows.{row_for}
 use Rattle.link.specs.Reading.{sort_by, pair_row}
-use Rattle.step.specs.Promise.{Lined, fits, lined, Opening, is_image, open_end, spans_at, Steps, closing}
+use Rattle.step.specs.Promise.{last_place, Lined, fits, lined, Opening, is_image, open_end, spans_at, Steps, closing}
 use Rattle.step.specs.declared.Walk.{Walk}
 use Rattle.inline.proofs.Pieces.{at_close}
 use Rattle.step.proofs.Openings.{Opens, at_opening}
@@ -35,7 +36,7 @@ barred_by : (b : Bool) (o last : ℕ) → barred (sort_by b) o last ≡ (not b &
 barred_by true o last = refl
 barred_by false o last = refl
 
-last_by : (b : Bool) (o last : ℕ) (t : Tail) → cond b last o ≡ last_after last (taken (sort_by b) o t)
+last_by : (b : Bool) (o : ℕ) (last : Found ℕ) (t : Tail) → last_place (cond b last (Some o)) ≡ last_after (last_place last) (taken (sort_by b) o t)
 last_by true o last t = refl
 last_by false o last t = refl
 
@@ -44,7 +45,7 @@ code_spans q = marked.code_span q ∷ []
 
 module _ (s : List ℕ) (offset : ℕ) (p : List ℕ) (labels : List (List ℕ)) (ds : List Definition) (v : Walk) (t : List ℕ) where
   -- whatever number of brackets is open afterwards, and whatever line was asked for last
-  abbrev Passed : Match Tail → ℕ → ℕ → ℕ → List ℕ → Type 0
+  abbrev Passed : Match Tail → ℕ → Found ℕ → ℕ → List ℕ → Type 0
   Passed f at last row u = (depth : ℕ) (line : Line) → Steps s offset p labels ds f v t (record { at = at; last = last; row = row; depth = depth; line = line }) u
 
   -- ---- a piece in no pair
@@ -57,10 +58,10 @@ module _ (s : List ℕ) (offset : ℕ) (p : List ℕ) (labels : List (List ℕ))
       record { at = ap (λ (x : Piece). x.end) (sym e); last = refl; row = rw z (omega arith); table = rw z refl }
 
   -- nor is an opening piece in one yet
-  pub step_opens : (n : ℕ) → Opens p v.at n → Passed alone (v.at + n) v.last v.row t
+  pub step_opens : (n : ℕ) → Opens p v.at n → Passed alone n v.last v.row t
   step_opens n o =
       let k : Kind = opens (sort_by (is_image p v.at)) in
-      step_quiet (piece k v.at (v.at + n)) (at_opening p v.at o.opening ∙ ap (piece k v.at) o.ends) refl
+      step_quiet (piece k v.at n) (at_opening p v.at o.opening ∙ ap (piece k v.at) o.ends) refl
 
   pub step_code : (e : ℕ) → piece_from p v.at ≡ piece code v.at e → {r : Span} {u : List ℕ} → r ≡ row_for offset p ds (marked.code_span (piece code v.at e))
       → u ≡ stored s t v.row r → Passed alone e v.last (v.row + 1) u
@@ -74,18 +75,18 @@ module _ (s : List ℕ) (offset : ℕ) (p : List ℕ) (labels : List (List ℕ))
   module _ (o : ℕ) (ho : Opening p o) (hc : get_or p v.at 0 ≡ 93) where
     -- it is no image, and a link opened after it already
     abbrev held : Bool
-    held = not (is_image p o) && ltb o v.last
+    held = not (is_image p o) && ltb o (last_place v.last)
 
     abbrev tail_here : Option Tail
     tail_here = tail_at p labels (open_end p o) v.at
 
     abbrev closing_as : Piece → Match Tail
-    closing_as q = cond (barred (sort_of q.kind) o v.last) (paired o) (with_tail (sort_of q.kind) o (tail_at p labels q.end v.at))
+    closing_as q = cond (barred (sort_of q.kind) o (last_place v.last)) (paired o) (with_tail (sort_of q.kind) o (tail_at p labels q.end v.at))
 
     closing_by : (b : Bool) → held ≡ b → (x : Option Tail) → tail_here ≡ x → closing s offset p labels ds v o ≡ cond b (paired o) (with_tail (sort_by (is_image p o)) o x)
     closing_by b eb x ex =
         ap closing_as (at_opening p o ho)
-        ∙ ap (λ (y : Bool). cond y (paired o) (with_tail (sort_by (is_image p o)) o tail_here)) (barred_by (is_image p o) o v.last ∙ eb)
+        ∙ ap (λ (y : Bool). cond y (paired o) (with_tail (sort_by (is_image p o)) o tail_here)) (barred_by (is_image p o) o (last_place v.last) ∙ eb)
         ∙ ap (λ (y : Option Tail). cond b (paired o) (with_tail (sort_by (is_image p o)) o y)) ex
 
     paired_step : (f : Match Tail) → f ≡ paired o → Passed f (v.at + 1) v.last v.row t
@@ -99,19 +100,19 @@ module _ (s : List ℕ) (offset : ℕ) (p : List ℕ) (labels : List (List ℕ))
     pub step_tailless : held ≡ false → none ≡ tail_here → Passed (closing s offset p labels ds v o) (v.at + 1) v.last v.row t
     step_tailless h e = paired_step _ (closing_by false h _ (sym e))
 
-    taken_step : (f : Match Tail) (x : Tail) → f ≡ taken (sort_by (is_image p o)) o x → {n last : ℕ} {r : Span} {u : List ℕ} → n ≡ length_of x → last ≡ cond (is_image p o) v.last o
+    taken_step : (f : Match Tail) (x : Tail) → f ≡ taken (sort_by (is_image p o)) o x → {n : ℕ} {last : Found ℕ} {r : Span} {u : List ℕ} → n ≡ length_of x → last ≡ cond (is_image p o) v.last (Some o)
         → r ≡ pair_row offset ds (is_image p o) o v.at x → u ≡ stored s t v.row r → Passed f (v.at + 1 + n) last (v.row + 1) u
     unfolding Rows.stored_all
     taken_step f x e en el er eu depth line =
         rw e
         (record {
           at = rw (at_close p v.at hc, en);
-          last = el ∙ last_by (is_image p o) o v.last x;
+          last = ap last_place el ∙ last_by (is_image p o) o v.last x;
           row = refl;
           table = rw (at_close p v.at hc, at_opening p o ho, ← er) eu;
         })
 
-    pub step_taken : held ≡ false → (x : Tail) → some x ≡ tail_here → {n last : ℕ} {r : Span} {u : List ℕ} → n ≡ length_of x → last ≡ cond (is_image p o) v.last o
+    pub step_taken : held ≡ false → (x : Tail) → some x ≡ tail_here → {n : ℕ} {last : Found ℕ} {r : Span} {u : List ℕ} → n ≡ length_of x → last ≡ cond (is_image p o) v.last (Some o)
         → r ≡ pair_row offset ds (is_image p o) o v.at x → u ≡ stored s t v.row r → Passed (closing s offset p labels ds v o) (v.at + 1 + n) last (v.row + 1) u
     step_taken h x e = taken_step _ x (closing_by false h _ (sym e))
 
@@ -142,5 +143,5 @@ module _ (s : List ℕ) (offset : ℕ) (t : List ℕ) (v : Walk) (l : Lined s of
       → r ≡ row_for offset p ds (marked.code_span (piece code v.at e)) → u ≡ stored_on c.line.number t v.row r
       → Steps s offset p labels ds alone v t (record { at = e; last = c.last; row = v.row + 1; depth = c.depth; line = c.line }) u
   step_counted p labels ds e q {u = u} er eu =
-      subst (λ (n : ℕ). Steps s offset p labels ds alone v t (record { at = e; last = n; row = v.row + 1; depth = c.depth; line = c.line }) u)
+      subst (λ (n : Found ℕ). Steps s offset p labels ds alone v t (record { at = e; last = n; row = v.row + 1; depth = c.depth; line = c.line }) u)
       (sym (ap (λ (x : Walk). x.last) ec)) (step_code s offset p labels ds v t e q er (row_stored s t v.row er line_known eu) c.depth c.line)

@@ -1,5 +1,5 @@
 -- One step of the code through a paragraph, past one piece.
-use Rattle.std.specs.Prelude.{ℕ, ◌+◌, ◌-◌, ◌≤◌, ◌<◌, ◌^◌, ◌≡◌, List, [], ◌∷◌, map, Bool, true, cond, ◌⊎◌, ltb, eqb, length, get_or, drop}
+use Rattle.std.specs.Prelude.{ℕ, ◌+◌, ◌-◌, ◌≤◌, ◌<◌, ◌^◌, ◌≡◌, List, [], ◌∷◌, map, Bool, true, cond, ◌⊎◌, ltb, eqb, length, get_or, drop, Option, None, Some}
 use Rattle.line.specs.Line.{line_of}
 use Rattle.line.specs.Promise.{none, line_if, Before}
 use Rattle.marking.specs.Spans as marked
@@ -14,13 +14,18 @@ use Rattle.link.specs.Reading.{text_from}
 use Rattle.step.specs.Reading.{stored_all}
 use Rattle.step.specs.declared.Walk.{Walk}
 
+-- the place of the last link's `[`; 0 where there is none yet
+abbrev pub last_place : Option ℕ → ℕ
+last_place (Some o) = o
+last_place None = 0
+
 -- before the first paragraph
 abbrev pub first : Walk
-first = record { at = 0; last = 0; row = 0; depth = 0; line = none }
+first = record { at = 0; last = None; row = 0; depth = 0; line = none }
 
 -- at a paragraph's start, with no bracket open: rows and lines go on from those before it
 abbrev pub afresh : Walk → Walk
-afresh w = record { at = 0; last = 0; row = w.row; depth = 0; line = w.line }
+afresh w = record { at = 0; last = None; row = w.row; depth = 0; line = w.line }
 
 -- in the paragraph at place `offset` of the note s the walk stands at a byte, and its line is that of an earlier place
 pub record Lined (s : List ℕ) (offset : ℕ) (w : Walk) : Type 0 where
@@ -35,9 +40,9 @@ fits t w = ltb w.row (whole_rows t)
 abbrev pub lined : List ℕ → ℕ → List ℕ → Walk → Walk
 lined s offset t w = record { at = w.at; last = w.last; row = w.row; depth = w.depth; line = line_if (fits t w) s w.line (offset + w.at) }
 
--- the bytes of the opening piece at a place, `[` or `![`; 0 where none starts
-abbrev pub opening_size : List ℕ → ℕ → ℕ
-opening_size p at = cond (eqb (get_or p at 0) 91) 1 (cond (image_opens (drop at p)) 2 0)
+-- where the opening piece ends that starts at a place, `[` or `![`
+abbrev pub opening_end : List ℕ → ℕ → Option ℕ
+opening_end p at = cond (eqb (get_or p at 0) 91) (Some (at + 1)) (cond (image_opens (drop at p)) (Some (at + 2)) None)
 
 -- `[` or `![` stands at place o
 abbrev pub Opening : List ℕ → ℕ → Type 0
@@ -87,13 +92,13 @@ module _ (s : List ℕ) (offset : ℕ) (p : List ℕ) (labels : List (List ℕ))
   -- A step from v with the table t to w with the table u, past the piece at v's place, which comes to f.
   pub record Steps (f : Match Tail) (v : Walk) (t : List ℕ) (w : Walk) (u : List ℕ) : Type 0 where
     pub at : w.at ≡ place_after (grammar p labels) (piece_at (grammar p labels) v.at) f
-    pub last : w.last ≡ last_after v.last f
+    pub last : last_place w.last ≡ last_after (last_place v.last) f
     pub row : w.row ≡ v.row + length (spans_at v.at f)
     pub table : u ≡ stored_all s t v.row (map (row_for offset p ds) (spans_at v.at f))
 
   -- what the `]` at v's place comes to with the `[` or `![` at place o
   abbrev pub closing : Walk → ℕ → Match Tail
-  closing v o = found_closing (λ a. sort_of ((grammar p labels).kind_at a)) (λ a. (grammar p labels).tail_at ((grammar p labels).end_at a) v.at) v.last (o ∷ [])
+  closing v o = found_closing (λ a. sort_of ((grammar p labels).kind_at a)) (λ a. (grammar p labels).tail_at ((grammar p labels).end_at a) v.at) (last_place v.last) (o ∷ [])
 
   -- past a `]` that closes a pair, whose opening bracket is then no longer open
   abbrev pub Closes : ℕ → Walk → List ℕ → Walk → List ℕ → Type 0

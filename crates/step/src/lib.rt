@@ -1,28 +1,26 @@
 // Past one piece of a paragraph: what it comes to, and the row of the span that ends with it.
 #![tactic(auto)]
 
-ghost use Rattle.std.specs.Prelude.{◌≡◌, cond, ◌+◌, ◌<◌, length};
-ghost use Rattle.texts.specs.Texts.{texts};
-ghost use Rattle.row.specs.Reading.{Fit, definitions_from};
-ghost use Rattle.index.specs.Index.{Ready as Indexed};
+ghost use Rattle.std.specs.Prelude.{◌≡◌, cond, ltb, ℕ, ◌+◌, ◌<◌, ◌^◌, length, get_or, None, Some};
+ghost use Rattle.index.specs.Rows.{ReadyFor};
 ghost use Rattle.parens.specs.Unclosed.{Prepared};
 ghost use Rattle.ticks.specs.LastRuns.{Ready};
 ghost use Rattle.inline.specs.Reading.{tail_at};
-ghost use Rattle.tail.specs.Ending.{labels_in, shown?, Sized?};
-ghost use Rattle.step.specs.Promise.{first, afresh, lined, opening_size, TextTo, LinedPair, BacktickAt, Bounds, Lined, Closes, Passes};
+ghost use Rattle.tail.specs.Ending.{all_labels, shown?, Sized?};
+ghost use Rattle.step.specs.Reading.{all_definitions};
+ghost use Rattle.step.specs.Promise.{last_place, first, afresh, lined, opening_end, TextTo, LinedPair, BacktickAt, Bounds, Lined, Closes, Passes};
 
 use line::Line;
-use row::Range;
-use scan::Found;
+use row::{Definitions, Range};
 use span::Span;
-use tail::Ending;
+use tail::ReadTail;
 
-// Where the reading stands: its place, the place of the last link's `[` (0 where there is none yet), the next span's row, how many
-// brackets are open, and the last line that was asked for.
+// Where the reading stands: its place, the place of the last link's `[`, the next span's row, how many brackets are open, and the last
+// line that was asked for.
 #[derive(Clone, Copy)]
 pub struct Walk {
     pub at: usize,
-    pub last: usize,
+    pub last: Option<usize>,
     pub row: usize,
     pub depth: usize,
     pub line: Line,
@@ -35,7 +33,7 @@ impl Walk {
     {
         Walk {
             at: 0,
-            last: 0,
+            last: None,
             row: 0,
             depth: 0,
             line: Line::none(),
@@ -49,7 +47,7 @@ pub fn afresh(from: Walk) -> Walk
 {
     let mut w = from;
     w.at = 0;
-    w.last = 0;
+    w.last = None;
     w.depth = 0;
     w
 }
@@ -70,21 +68,21 @@ pub fn count_lines(note: &[u8], start: usize, spans: &[u32], w: Walk) -> Walk
     v
 }
 
-// The bytes of the opening piece at a place: `[` or `![`. None starts there where it is 0.
-pub fn opening_size(p: &[u8], at: usize) -> usize
+// Where the opening piece ends that starts at a place: `[` or `![`.
+pub fn opening_end(p: &[u8], at: usize) -> Option<usize>
     requires { at < length p.now }
-    ensures { result ≡ opening_size p.now at }
+    ensures { result ≡ opening_end p.now at }
 {
     if p[at] == 91 {
-        return 1;
+        return Some(at + 1);
     }
     if p[at] != 33 {
-        return 0;
+        return None;
     }
     if scan::peek(p, at + 1) == 91 {
-        return 2;
+        return Some(at + 2);
     }
-    0
+    None
 }
 
 // The tail of the pair whose text starts at `from` and whose closing bracket stands at `closing`.
@@ -92,78 +90,79 @@ fn tail_at<'a>(
     p: &[u8],
     from: usize,
     closing: usize,
-    note: &'a [u8],
-    sheet: &'a [u8],
-    definitions: &[u32],
-    count: usize,
+    definitions: &Definitions<'a>,
     index: &mut [u32],
-    marks: &mut [u8],
-) -> Ending
+    marks: &mut [bool],
+) -> Option<ReadTail>
     requires text_to { TextTo p.now from closing }
-    requires fit { Fit (texts note.now sheet.now) definitions.now count }
-    requires indexed { Indexed (texts note.now sheet.now) definitions.now count index.old }
+    requires indexed { ReadyFor definitions.now index.old }
     requires prepared { Prepared p.now closing marks.old }
-    ensures result_value { shown? (closing + 1) result ≡ tail_at p.now (labels_in (texts note.now sheet.now) definitions.now count) from closing }
+    ensures result_value { shown? (closing + 1) result ≡ tail_at p.now (all_labels definitions.now) from closing }
     ensures sized { Sized? result }
-    ensures indexed_2 { Indexed (texts note.now sheet.now) definitions.now count index.new }
+    ensures indexed_2 { ReadyFor definitions.now index.new }
     ensures prepared_2 { Prepared p.now (closing + 1) marks.new }
 {
     let next = closing + 1;
     let text = &p[from..closing];
     let rest = &p[next..];
     let own = &mut marks[next..];
-    tail::tail_after(text, rest, note, sheet, definitions, count, index, own)
+    tail::tail_after(text, rest, definitions, index, own)
+}
+
+// Whether the last link opens after `opening`.
+fn holds_link(opening: usize, last: Option<usize>) -> bool
+    ensures { result ≡ ltb opening (last_place last) }
+{
+    last.is_some_and(|last| opening < last)
 }
 
 // The place of the last link's `[` after the pair that opens at `opening` is taken: an image is no link.
-fn last_link(image: bool, last: usize, opening: usize) -> usize
-    ensures { result ≡ cond image last opening }
+fn last_link(image: bool, last: Option<usize>, opening: usize) -> Option<usize>
+    ensures { result ≡ cond image last (Some opening) }
 {
-    if image {
-        return last;
-    }
-    opening
+    if image { last } else { Some(opening) }
 }
+
+// The numbers of a table have 32 bits, as those of a row have to have.
+fn small_numbers(table: &[u32])
+    ensures { (i : ℕ) → get_or table.now i 0 < 2 ^ 32 }
+{}
 
 // Past the `]` at the walk's place, whose pair opens at `opening`, on this line if a row more can be stored. That bracket is open no
 // longer.
 pub fn close_pair<'a>(
     p: &[u8],
     start: usize,
-    note: &'a [u8],
-    sheet: &'a [u8],
-    definitions: &[u32],
-    count: usize,
+    definitions: &Definitions<'a>,
     index: &mut [u32],
     spans: &mut [u32],
     w: Walk,
     opening: usize,
     line: usize,
-    marks: &mut [u8],
+    marks: &mut [bool],
 ) -> Walk
-    requires lined_pair { LinedPair note.now start p.now spans.old w opening line }
-    requires bounds { Bounds start p.now count w }
-    requires fit { Fit (texts note.now sheet.now) definitions.now count }
-    requires indexed { Indexed (texts note.now sheet.now) definitions.now count index.old }
+    requires lined_pair { LinedPair definitions.now.note.now start p.now spans.old w opening line }
+    requires bounds { Bounds start p.now definitions.now.count w }
+    requires indexed { ReadyFor definitions.now index.old }
     requires prepared { Prepared p.now w.at marks.old }
-    ensures closes { Closes note.now start p.now (labels_in (texts note.now sheet.now) definitions.now count) (definitions_from definitions.now 0 count) opening w spans.old result spans.new }
+    ensures closes { Closes definitions.now.note.now start p.now (all_labels definitions.now) (all_definitions definitions.now) opening w spans.old result spans.new }
     ensures prepared_2 { Prepared p.now result.at marks.new }
-    ensures indexed_2 { Indexed (texts note.now sheet.now) definitions.now count index.new }
+    ensures indexed_2 { ReadyFor definitions.now index.new }
 {
     let next = w.at + 1;
     let mut v = w;
     v.at = next;
     v.depth = w.depth - 1;
     let image = p[opening] == 33;
-    if !image & (opening < w.last) {
+    if !image & holds_link(opening, w.last) {
         return v;
     }
     let from = link::text_from(image, opening);
-    let Ending::With(t) = tail_at(p, from, w.at, note, sheet, definitions, count, index, marks)
-    else {
+    let Some(t) = tail_at(p, from, w.at, definitions, index, marks) else {
         return v;
     };
-    let row = link::pair_row(start, image, opening, w.at, t, definitions, count);
+    small_numbers(definitions.table);
+    let row = link::pair_row(start, image, opening, w.at, t, definitions);
     span::store(spans, w.row, row, line);
     v.at = next + t.length;
     v.last = last_link(image, w.last, opening);
@@ -178,7 +177,7 @@ fn pass_backticks(
     note: &[u8],
     spans: &mut [u32],
     w: Walk,
-    runs: &mut [u32; ticks::LENGTHS],
+    runs: &mut Option<[u32; ticks::LENGTHS]>,
 ) -> Walk
     requires backtick_at { BacktickAt p.now w }
     requires bounds { Bounds start p.now 0 w }
@@ -190,7 +189,7 @@ fn pass_backticks(
     let at = w.at;
     let first = ticks::backticks_end(p, at);
     let n = first - at;
-    let Found::At(e) = ticks::closing_run_lazy(p, first, n, runs) else {
+    let Some(e) = ticks::closing_run_lazy(p, first, n, runs) else {
         let mut v = w;
         v.at = first;
         return v;
@@ -205,16 +204,17 @@ fn pass_backticks(
 }
 
 // Past a piece that opens no bracket, and closes no pair.
+// A struct of p, start and note would be no plainer: lines are counted without p, and a pair that closes has the note with its definitions.
 pub fn pass_piece(
     p: &[u8],
     start: usize,
     note: &[u8],
     spans: &mut [u32],
     w: Walk,
-    runs: &mut [u32; ticks::LENGTHS],
+    runs: &mut Option<[u32; ticks::LENGTHS]>,
 ) -> Walk
     requires at_in_bounds { w.at < length p.now }
-    requires at_value { opening_size p.now w.at ≡ 0 }
+    requires at_value { opening_end p.now w.at ≡ None }
     requires bounds { Bounds start p.now 0 w }
     requires lined { Lined note.now start w }
     requires ready { Ready p.now runs.old }

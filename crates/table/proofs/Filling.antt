@@ -1,4 +1,5 @@
 -- The turns of a loop that stores a text's definitions and remembers its paragraphs one after the other.
+use Rattle.std.specs.Prelude.{Some}
 use Prim.Native.Nat.{ℕ, ◌+◌, ◌-◌, ◌*◌, ◌≤◌, ◌<◌, ◌^◌}
 use native.Mathlib.Omega.{arith}
 use mathlib.Core.Path.{◌≡◌, refl, sym, ap, ap₂, ◌∙◌}
@@ -72,10 +73,7 @@ module _ (s : List ℕ) (text : ℕ) (t₀ : List ℕ) (from : ℕ) (p₀ : List
     pub same_list : length p ≡ length p₀
     same_list = f.size
 
-    module _ {x : Item} (i : IsItem s c x) (e : x ≡ item.End) where
-      over : NoItem s c
-      over = rw e at i
-
+    module _ (over : NoItem s c) where
       all_passed : f.passed ≡ definitions s
       all_passed = sym (f.whole ∙ ap (λ (l : List Definition). f.passed ++ l) over.definitions ∙ append-nil f.passed)
 
@@ -89,7 +87,7 @@ module _ (s : List ℕ) (text : ℕ) (t₀ : List ℕ) (from : ℕ) (p₀ : List
       all_remembered h = all_listed s (f.listed h) over.paragraphs
 
     -- ---- past a definition
-    module _ {x : Item} (i : IsItem s c x) {d : Definition} {c' : Cursor} (e : x ≡ item.Definition d c') where
+    module _ {x : Item} (i : IsItem s c (Some x)) {d : Definition} {c' : Cursor} (e : x ≡ item.Definition d c') where
       met : ItemDefinition s c d c'
       met = rw e at i
 
@@ -141,7 +139,7 @@ module _ (s : List ℕ) (text : ℕ) (t₀ : List ℕ) (from : ℕ) (p₀ : List
         }
 
     -- ---- past a paragraph
-    module _ {x : Item} (i : IsItem s c x) {a e : ℕ} {c' : Cursor} (q : x ≡ item.Paragraph a e c') where
+    module _ {x : Item} (i : IsItem s c (Some x)) {a e : ℕ} {c' : Cursor} (q : x ≡ item.Paragraph a e c') where
       passing : ItemParagraph s c a e c'
       passing = rw q at i
 

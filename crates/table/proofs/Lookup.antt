@@ -1,11 +1,11 @@
 -- A table with a whole row for each entry of the joined list can be looked up, and finds the first definition with an equal label.
+use Rattle.std.specs.Prelude.{None, Some}
 use Prim.Native.Nat.{ℕ, ◌+◌, ◌≤◌, ◌<◌, ◌^◌}
 use native.Mathlib.Omega.{arith}
 use mathlib.Core.Path.{◌≡◌, refl, sym, ◌∙◌}
 use mathlib.Core.List.{List, [], ◌∷◌, ◌++◌}
 use mathlib.Core.Logic.{◌↔◌}
 use lib.ListN.{length, length-map}
-use Rattle.scan.specs.declared.Found.TheVariants.{At, Nothing}
 use Rattle.text.specs.Utf8.{note_limit}
 use Rattle.texts.specs.Texts.{Texts, note_number, sheet_number}
 use Rattle.row.specs.declared.Definition.{Definition}
@@ -58,8 +58,8 @@ module _ (T : Texts) (t : List ℕ) (enough : length (joined T) ≤ whole_rows t
     table_row = rw (stored, counted) (row_of_filled T (joined T) t enough label)
 
     -- row i is found exactly where entry i is the first of the joined list with an equal label
-    pub table_first : (i : ℕ) → (row_of T t' label k ≡ At i) ↔ FirstEqual (labels_of T (joined T)) label i
+    pub table_first : (i : ℕ) → (row_of T t' label k ≡ Some i) ↔ FirstEqual (labels_of T (joined T)) label i
     table_first i = rw (stored, counted) (row_of_first T (joined T) t enough label i)
 
-    pub table_none : (row_of T t' label k ≡ Nothing) ↔ NoneEqual (labels_of T (joined T)) label
+    pub table_none : (row_of T t' label k ≡ None) ↔ NoneEqual (labels_of T (joined T)) label
     table_none = rw (stored, counted) (row_of_none T (joined T) t enough label)

@@ -37,6 +37,7 @@ fn line_of(s: &[u8], table: &[u32], k: usize, d: Definition, from: Line) -> Line
 
 // Stores the rows of the definitions of the text `s`, whose number is `text`, from row `from` on, as many as fit, and remembers its paragraphs in the
 // list, as many as fit. Returns the number of the row after them and how many paragraphs there are.
+#[tactic(auto, using(crate::proofs::Filling::stands_there, crate::proofs::Filling::line_there, crate::proofs::Filling::same_size, crate::proofs::Filling::same_list, crate::proofs::Filling::all_counted, crate::proofs::Filling::all_stored, crate::proofs::Filling::all_remembered))]
 fn fill_text(s: &[u8], text: usize, table: &mut [u32], from: usize, list: &mut [u16]) -> Filled
     requires s_len_bound { length s.now ≤ note_limit }
     requires text_bound { text < 2 ^ 32 }
@@ -49,8 +50,8 @@ fn fill_text(s: &[u8], text: usize, table: &mut [u32], from: usize, list: &mut [
     let mut paragraphs = 0;
     let mut c = Cursor { at: 0, end: 0 };
     let mut line = Line::none();
-    loop {
-        match walk::next_item(s, c) {
+    while let Some(item) = walk::next_item(s, c) {
+        match item {
             Item::Definition(d, after) => {
                 line = line_of(s, table, next, d, line);
                 row::store(table, next, text, d, line.number);
@@ -62,11 +63,11 @@ fn fill_text(s: &[u8], text: usize, table: &mut [u32], from: usize, list: &mut [
                 paragraphs += 1;
                 c = after;
             }
-            Item::End => return Filled {
-                definitions: next,
-                paragraphs,
-            },
         }
+    }
+    Filled {
+        definitions: next,
+        paragraphs,
     }
 }
 

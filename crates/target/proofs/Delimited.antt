@@ -1,4 +1,5 @@
 -- What lies between delimiters: `enclosed_of` finds exactly that.
+use Rattle.std.specs.Prelude.{None, Option, Some}
 use Prim.Native.Nat.{ℕ, ◌+◌, ◌-◌, ◌≤◌, ◌<◌}
 use native.Mathlib.Omega.{arith}
 use mathlib.Core.Path.{◌≡◌, refl, sym, ap, ◌∙◌}
@@ -9,23 +10,25 @@ use lib.ListN.{length, get_or, take, drop, length-append, length-drop}
 use lib.Seq.{take_at, drop_at, drop-drop}
 use Rattle.scan.specs.Closing.{inner, Closed}
 use Rattle.scan.specs.Reading.{closing}
-use Rattle.scan.specs.declared.Found.{Found}
-use Rattle.scan.specs.declared.Found.TheVariants as found
 use Rattle.scan.proofs.Closing.{closing_iff}
 use Rattle.target.specs.Target.{Between}
-use Rattle.target.specs.Reading.{up_to, enclosed_of}
+use Rattle.target.specs.Reading.{part, up_to, enclosed_of}
 use Rattle.target.specs.declared.Part.{Part}
-use Rattle.target.specs.declared.Part.TheVariants.{Span, Nothing}
 
-pub span_eq : {a b c d e f : ℕ} → a ≡ b → c ≡ d → e ≡ f → Span a c e ≡ Span b d f
+pub span_eq : {a b c d e f : ℕ} → a ≡ b → c ≡ d → e ≡ f → Some (part a c e) ≡ Some (part b d f)
 span_eq p q r = cc
 
-pub never : {a e n : ℕ} → Nothing ≡ Span a e n → ⊥
+pub same_part : {a b c d e f : ℕ} → Some (part a c e) ≡ Some (part b d f) → (a ≡ b) × (c ≡ d) × (e ≡ f)
+same_part {a} {b} {c} {d} {e} {f} q =
+    let p : part a c e ≡ part b d f = cc in
+    (ap (λ (x : Part). x.start) p, ap (λ (x : Part). x.end) p, ap (λ (x : Part). x.next) p)
+
+pub never : {a e n : ℕ} → None ≡ Some (part a e n) → ⊥
 never q = let z : ◌≡◌ {A = ℕ} 0 1 = cc in omega arith
 
-pub or_nothing : (p : Part) → ((a e n : ℕ) → p ≡ Span a e n → ⊥) → p ≡ Nothing
-or_nothing (Span a e n) f = absurd (f a e n refl)
-or_nothing Nothing f = refl
+pub or_nothing : (p : Option Part) → ((a e n : ℕ) → p ≡ Some (part a e n) → ⊥) → p ≡ None
+or_nothing (Some p) f = absurd (f p.start p.end p.next refl)
+or_nothing None f = refl
 
 -- the content at the front of s, which starts at place `at`
 pub record EnclosedAt (close bar other : ℕ) (s : List ℕ) (at a e n : ℕ) : Type 0 where
@@ -38,16 +41,14 @@ pub record EnclosedAt (close bar other : ℕ) (s : List ℕ) (at a e n : ℕ) : 
 
 -- the backslash is no delimiter
 module _ (close bar other : ℕ) (free : inner close bar other 92 ≡ true) where
-  sound : (s : List ℕ) (at a e n : ℕ) (f : Found) → closing close bar other s at ≡ f → up_to at f ≡ Span a e n → EnclosedAt close bar other s at a e n
-  sound s at a e n (found.At x) q r =
+  sound : (s : List ℕ) (at a e n : ℕ) (f : Option ℕ) → closing close bar other s at ≡ f → up_to at f ≡ Some (part a e n) → EnclosedAt close bar other s at a e n
+  sound s at a e n (Some x) q r =
       let m = (closing_iff close bar other free s at x).0 q in
-      let ea : at ≡ a = cc in
-      let ex : x ≡ e = cc in
-      let en : x + 1 ≡ n = cc in
+      let (ea, ex, en) = same_part r in
       record { content = m.text; more = m.more; closed = m.closed; start = sym ea; end = omega (arith, m.place); past = omega arith }
-  sound s at a e n found.Nothing q r = absurd (never r)
+  sound s at a e n None q r = absurd (never r)
 
-  pub enclosed_iff : (s : List ℕ) (at a e n : ℕ) → (enclosed_of close bar other s at ≡ Span a e n) ↔ EnclosedAt close bar other s at a e n
+  pub enclosed_iff : (s : List ℕ) (at a e n : ℕ) → (enclosed_of close bar other s at ≡ Some (part a e n)) ↔ EnclosedAt close bar other s at a e n
   enclosed_iff s at a e n = (
     sound s at a e n (closing close bar other s at) refl,
     (λ m.

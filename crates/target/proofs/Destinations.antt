@@ -1,4 +1,5 @@
 -- `destination_of` finds exactly the destination that starts a text.
+use Rattle.std.specs.Prelude.{None, Some}
 use Prim.Native.Nat.{ℕ, ◌+◌, ◌≤◌, ◌<◌}
 use native.Mathlib.Omega.{arith}
 use mathlib.Core.Path.{◌≡◌, refl, sym, ap, ◌∙◌}
@@ -14,12 +15,11 @@ use Rattle.scan.specs.Every.{Every}
 use Rattle.scan.specs.Every as every
 use Rattle.scan.specs.Closing.{Units, none, escape, byte, inner}
 use Rattle.target.specs.Target.{control, Raw, Between, Destination, angled, raw, DestinationAt}
-use Rattle.target.specs.Reading.{raw_run, judged, destination_of}
+use Rattle.target.specs.Reading.{raw_run, part, judged, destination_of}
 use Rattle.target.specs.declared.Run.{Run}
-use Rattle.target.specs.declared.Part.TheVariants.{Span, Nothing}
 use Rattle.target.proofs.Parentheses.{balanced_iff}
 use Rattle.target.proofs.Raw.{RunAt, raw_run_iff}
-use Rattle.target.proofs.Delimited.{span_eq, never, or_nothing, front, enclosed_iff, between_parts, Parts, Placed, placed, Within, placed_within}
+use Rattle.target.proofs.Delimited.{span_eq, same_part, never, or_nothing, front, enclosed_iff, between_parts, Parts, Placed, placed, Within, placed_within}
 
 -- ---- without angle brackets
 record Judged (at : ℕ) (r : Run) (a e n : ℕ) : Type 0 where
@@ -29,14 +29,14 @@ record Judged (at : ℕ) (r : Run) (a e n : ℕ) : Type 0 where
   nonempty : r.end ≡ at → ⊥
   balanced : r.depth ≡ 0
 
-judged_span : (at : ℕ) (r : Run) (a e n : ℕ) → judged at r ≡ Span a e n → Judged at r a e n
+judged_span : (at : ℕ) (r : Run) (a e n : ℕ) → judged at r ≡ Some (part a e n) → Judged at r a e n
 unfolding judged
 judged_span at r a e n q =
     by (eqb r.end at || not (eqb r.depth 0)) (λ t. absurd (never (rw t at q)))
     (λ f.
     let (ne, bal) = neither (eqb r.end at) (not (eqb r.depth 0)) f in
-    let s : Span at r.end r.end ≡ Span a e n = rw f at q in
-    record { start = (cc); end = (cc); past = (cc); nonempty = eqb-false r.end at ne; balanced = eqb-true r.depth 0 (not-false _ bal) })
+    let (start, end, past) = same_part (rw f at q) in
+    record { start = sym start; end = sym end; past = sym past; nonempty = eqb-false r.end at ne; balanced = eqb-true r.depth 0 (not-false _ bal) })
 
 raw_sound : (s : List ℕ) (at a e n : ℕ) (r : Run) → (get_or s 0 0 ≡ 60 → ⊥) → RunAt s at r → Judged at r a e n → DestinationAt s at a e n
 raw_sound s at a e n r u m j =
@@ -50,14 +50,14 @@ raw_sound s at a e n r u m j =
       past = omega (arith, j.end, j.past);
     }
 
-raw_complete : (s : List ℕ) (at : ℕ) {l more : List ℕ} → Raw s l more → destination_of s at ≡ Span at (at + length l) (at + length l)
+raw_complete : (s : List ℕ) (at : ℕ) {l more : List ℕ} → Raw s l more → destination_of s at ≡ Some (part at (at + length l) (at + length l))
 unfolding destination_of judged
 raw_complete s at {l} {more} r =
     let q = (raw_run_iff s at (record { end = at + length l; depth = 0 })).1 (record { run = l; more = more; longest = r.run; leaves = (balanced_iff l).0 r.closed; place = refl }) in
     simp (ne_eqb _ 60 r.unangled, q, ne_eqb (at + length l) at (λ z. omega (arith, r.nonempty)))
 
 -- ---- both forms
-sound : (s : List ℕ) (at a e n : ℕ) → destination_of s at ≡ Span a e n → DestinationAt s at a e n
+sound : (s : List ℕ) (at a e n : ℕ) → destination_of s at ≡ Some (part a e n) → DestinationAt s at a e n
 unfolding destination_of
 sound s at a e n q =
     by (eqb (get_or s 0 0) 60)
@@ -75,7 +75,7 @@ sound s at a e n q =
     (λ h. raw_sound s at a e n (raw_run s at) (eqb-false _ 60 h) ((raw_run_iff s at (raw_run s at)).0 refl) (judged_span at (raw_run s at) a e n (rw h at q)))
 
 complete : (s : List ℕ) (at : ℕ) {from : ℕ} {l more : List ℕ} → Destination s from l more
-    → destination_of s at ≡ Span (at + from) (at + from + length l) (at + from + length l + from)
+    → destination_of s at ≡ Some (part (at + from) (at + from + length l) (at + from + length l + from))
 unfolding destination_of
 complete s at (angled {l} {more} b) =
     rw b.whole
@@ -83,7 +83,7 @@ complete s at (angled {l} {more} b) =
 complete s at (raw {l} {more} r) = raw_complete s at r ∙ span_eq (omega arith) (omega arith) (omega arith)
 
 -- what is found is what the law says, with its places
-pub destination_iff : (s : List ℕ) (at a e n : ℕ) → (destination_of s at ≡ Span a e n) ↔ DestinationAt s at a e n
+pub destination_iff : (s : List ℕ) (at a e n : ℕ) → (destination_of s at ≡ Some (part a e n)) ↔ DestinationAt s at a e n
 destination_iff s at a e n = (
   sound s at a e n,
   (λ m. complete s at m.destination ∙ span_eq (omega (arith, m.start)) (omega (arith, m.start, m.end)) (omega (arith, m.start, m.end, m.past))),
@@ -100,14 +100,13 @@ sized (raw r) = omega (arith, r.nonempty)
 -- at most one destination starts a text
 pub destination_one : {s : List ℕ} {f f' : ℕ} {l l' m m' : List ℕ} → Destination s f l m → Destination s f' l' m' → (f ≡ f') × (l ≡ l') × (m ≡ m')
 destination_one {s} {f} {f'} {l} {l'} d d' =
-    let q = sym (complete s 0 d) ∙ complete s 0 d' in
+    let (ea, ee, en) = same_part (sym (complete s 0 d) ∙ complete s 0 d') in
     let p = placed 0 (0 + f) (0 + f + length l) (0 + f + length l + f) (parts d) refl refl refl (sized d) in
     let p' = placed 0 (0 + f') (0 + f' + length l') (0 + f' + length l' + f') (parts d') refl refl refl (sized d') in
-    let ea : 0 + f ≡ 0 + f' = cc in
     (omega arith, (cc), (cc))
 
 -- none is found exactly where none starts
-pub no_destination_iff : (s : List ℕ) (at : ℕ) → (destination_of s at ≡ Nothing) ↔ ((from : ℕ) (l more : List ℕ) → Destination s from l more → ⊥)
+pub no_destination_iff : (s : List ℕ) (at : ℕ) → (destination_of s at ≡ None) ↔ ((from : ℕ) (l more : List ℕ) → Destination s from l more → ⊥)
 no_destination_iff s at = (
   (λ q from l more d. never (sym q ∙ complete s at d)),
   (λ f. or_nothing (destination_of s at) (λ a e n q. let m = sound s at a e n q in f m.from m.content m.more m.destination)),
@@ -118,7 +117,7 @@ pub destination_placed : {s : List ℕ} {at a e n : ℕ} (m : DestinationAt s at
 destination_placed {s} {at} {a} {e} {n} m = placed at a e n (parts m.destination) m.start m.end m.past (sized m.destination)
 
 -- where the destination is read from a place of a longer text
-pub destination_within : (s : List ℕ) (at a e n : ℕ) → destination_of (drop at s) at ≡ Span a e n → (l : List ℕ) × (more : List ℕ) × Within s at a e n l more
+pub destination_within : (s : List ℕ) (at a e n : ℕ) → destination_of (drop at s) at ≡ Some (part a e n) → (l : List ℕ) × (more : List ℕ) × Within s at a e n l more
 destination_within s at a e n q = let m = sound (drop at s) at a e n q in (m.content, m.more, placed_within (destination_placed m))
 
 no_line : (t : ℕ → Bool) → t 10 ≡ false → (b : ℕ) → t b ≡ true → not (eqb b 10) ≡ true

@@ -1,4 +1,5 @@
 -- `title_of` finds exactly the title that starts a text.
+use Rattle.std.specs.Prelude.{None, Some}
 use Prim.Native.Nat.{ℕ, ◌+◌}
 use native.Mathlib.Omega.{arith}
 use mathlib.Core.Path.{◌≡◌, refl, sym, ap, ◌∙◌}
@@ -12,9 +13,8 @@ use Rattle.scan.proofs.Test.{by}
 use Rattle.scan.specs.Byte.{blank}
 use Rattle.scan.specs.Closing.{inner}
 use Rattle.target.specs.Target.{Between, Title, double, single, parentheses, TitleAt}
-use Rattle.target.specs.Reading.{quotes, closer, title_of}
-use Rattle.target.specs.declared.Part.TheVariants.{Span, Nothing}
-use Rattle.target.proofs.Delimited.{span_eq, never, or_nothing, front, enclosed_iff, between_parts, Placed, placed, Within, placed_within}
+use Rattle.target.specs.Reading.{part, quotes, closer, title_of}
+use Rattle.target.proofs.Delimited.{span_eq, same_part, never, or_nothing, front, enclosed_iff, between_parts, Placed, placed, Within, placed_within}
 
 -- what holds of the three opening delimiters holds of each
 for_quotes : (P : ℕ → Type 0) → P 34 → P 39 → P 40 → (q : ℕ) → quotes q ≡ true → P q
@@ -44,7 +44,7 @@ as_quoted (double b) = record { q = 34; quote = refl; between = b }
 as_quoted (single b) = record { q = 39; quote = refl; between = b }
 as_quoted (parentheses b) = record { q = 40; quote = refl; between = b }
 
-sound : (s : List ℕ) (at a e n : ℕ) → title_of s at ≡ Span a e n → TitleAt s at a e n
+sound : (s : List ℕ) (at a e n : ℕ) → title_of s at ≡ Some (part a e n) → TitleAt s at a e n
 unfolding title_of
 sound s at a e n r =
     by (quotes (get_or s 0 0))
@@ -61,7 +61,7 @@ sound s at a e n r =
     })
     (λ h. absurd (never (rw h at r)))
 
-complete : (s : List ℕ) (at : ℕ) {l more : List ℕ} → Title s l more → title_of s at ≡ Span (at + 1) (at + 1 + length l) (at + 1 + length l + 1)
+complete : (s : List ℕ) (at : ℕ) {l more : List ℕ} → Title s l more → title_of s at ≡ Some (part (at + 1) (at + 1 + length l) (at + 1 + length l + 1))
 unfolding title_of
 complete s at {l} {more} t =
     let k = as_quoted t in
@@ -71,7 +71,7 @@ complete s at {l} {more} t =
     (record { content = l; more = more; closed = b.inner; start = refl; end = refl; past = refl }))
 
 -- what is found is what the law says, with its places
-pub title_iff : (s : List ℕ) (at a e n : ℕ) → (title_of s at ≡ Span a e n) ↔ TitleAt s at a e n
+pub title_iff : (s : List ℕ) (at a e n : ℕ) → (title_of s at ≡ Some (part a e n)) ↔ TitleAt s at a e n
 title_iff s at a e n = (
   sound s at a e n,
   (λ m. complete s at m.title ∙ span_eq (sym m.start) (omega (arith, m.start, m.end)) (omega (arith, m.start, m.end, m.past))),
@@ -80,13 +80,13 @@ title_iff s at a e n = (
 -- at most one title starts a text
 pub title_one : {s l l' m m' : List ℕ} → Title s l m → Title s l' m' → (l ≡ l') × (m ≡ m')
 title_one {s} {l} {l'} t t' =
-    let q = sym (complete s 0 t) ∙ complete s 0 t' in
+    let (ea, ee, en) = same_part (sym (complete s 0 t) ∙ complete s 0 t') in
     let p = placed 0 (0 + 1) (0 + 1 + length l) (0 + 1 + length l + 1) (between_parts (as_quoted t).between) refl refl refl (omega arith) in
     let p' = placed 0 (0 + 1) (0 + 1 + length l') (0 + 1 + length l' + 1) (between_parts (as_quoted t').between) refl refl refl (omega arith) in
     ((cc), (cc))
 
 -- none is found exactly where none starts
-pub no_title_iff : (s : List ℕ) (at : ℕ) → (title_of s at ≡ Nothing) ↔ ((l more : List ℕ) → Title s l more → ⊥)
+pub no_title_iff : (s : List ℕ) (at : ℕ) → (title_of s at ≡ None) ↔ ((l more : List ℕ) → Title s l more → ⊥)
 no_title_iff s at = (
   (λ q l more t. never (sym q ∙ complete s at t)),
   (λ f. or_nothing (title_of s at) (λ a e n q. let m = sound s at a e n q in f m.content m.more m.title)),
@@ -97,7 +97,7 @@ pub title_placed : {s : List ℕ} {at a e n : ℕ} (m : TitleAt s at a e n) → 
 title_placed {s} {at} {a} {e} {n} m = placed at a e n (between_parts (as_quoted m.title).between) m.start m.end m.past (omega arith)
 
 -- where the title is read from a place of a longer text
-pub title_within : (s : List ℕ) (at a e n : ℕ) → title_of (drop at s) at ≡ Span a e n → (l : List ℕ) × (more : List ℕ) × Within s at a e n l more
+pub title_within : (s : List ℕ) (at a e n : ℕ) → title_of (drop at s) at ≡ Some (part a e n) → (l : List ℕ) × (more : List ℕ) × Within s at a e n l more
 title_within s at a e n q = let m = sound (drop at s) at a e n q in (m.content, m.more, placed_within (title_placed m))
 
 -- what it starts with is not blank

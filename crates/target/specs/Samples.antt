@@ -1,55 +1,54 @@
 -- Samples by computation.
-use Rattle.std.specs.Prelude.{ℕ, ◌≡◌, refl, []}
+use Rattle.std.specs.Prelude.{ℕ, ◌≡◌, refl, [], None, Option, Some}
 use Prim.Native.String.{String}
 use Rattle.scan.specs.Ascii.{ascii}
 use Rattle.scan.specs.Reading.{scan, closing_step, closing}
 use Rattle.target.specs.Target.{AllClosed, none, escape, byte, group, ClosesOnlyOpened, balanced, opened}
-use Rattle.target.specs.Reading.{space_from, space_run, depth_after, raw_step, raw_run, judged, destination_of, closer, title_of}
+use Rattle.target.specs.Reading.{space_from, space_run, depth_after, raw_step, raw_run, part, judged, destination_of, closer, title_of}
 use Rattle.target.specs.declared.Part.{Part}
-use Rattle.target.specs.declared.Part.TheVariants.{Span, Nothing}
 
-abbrev destination_in : String → Part
+abbrev destination_in : String → Option Part
 destination_in t = destination_of (ascii t) 0
 
-abbrev title_in : String → Part
+abbrev title_in : String → Option Part
 title_in t = title_of (ascii t) 0
 
 abbrev space_in : String → ℕ
 space_in t = space_run (ascii t)
 
-raw_destinations : (destination_in "foo\\)\\:" ≡ Span 0 7 7)
-    × (destination_in "(foo(and(bar)))" ≡ Span 0 15 15)
-    × (destination_in "foo(and(bar)" ≡ Nothing)
-    × (destination_in "foo)bar" ≡ Span 0 3 3)
-    × (destination_in "/my uri" ≡ Span 0 3 3)
-    × (destination_in "a\\(b" ≡ Span 0 4 4)
-    × (destination_in "a\\\\(b" ≡ Nothing)
-    × (destination_in "(a\\)" ≡ Nothing)
-    × (destination_in "(a\\))" ≡ Span 0 5 5)
-    × (destination_in "a\\ b" ≡ Span 0 2 2)
-    × (destination_in ")" ≡ Nothing)
-    × (destination_in " a" ≡ Nothing)
-    × (destination_in "" ≡ Nothing)
+raw_destinations : (destination_in "foo\\)\\:" ≡ Some (part 0 7 7))
+    × (destination_in "(foo(and(bar)))" ≡ Some (part 0 15 15))
+    × (destination_in "foo(and(bar)" ≡ None)
+    × (destination_in "foo)bar" ≡ Some (part 0 3 3))
+    × (destination_in "/my uri" ≡ Some (part 0 3 3))
+    × (destination_in "a\\(b" ≡ Some (part 0 4 4))
+    × (destination_in "a\\\\(b" ≡ None)
+    × (destination_in "(a\\)" ≡ None)
+    × (destination_in "(a\\))" ≡ Some (part 0 5 5))
+    × (destination_in "a\\ b" ≡ Some (part 0 2 2))
+    × (destination_in ")" ≡ None)
+    × (destination_in " a" ≡ None)
+    × (destination_in "" ≡ None)
 unfolding scan depth_after raw_step raw_run judged destination_of
 raw_destinations = (refl, refl, refl, refl, refl, refl, refl, refl, refl, refl, refl, refl, refl)
 
-angled_destinations : (destination_in "<b)c>" ≡ Span 1 4 5)
-    × (destination_in "<my uri>x" ≡ Span 1 7 8)
-    × (destination_in "<>" ≡ Span 1 1 2)
-    × (destination_in "<foo\\>" ≡ Nothing)
-    × (destination_in "<a<b>" ≡ Nothing)
-    × (destination_in "<a\nb>" ≡ Nothing)
+angled_destinations : (destination_in "<b)c>" ≡ Some (part 1 4 5))
+    × (destination_in "<my uri>x" ≡ Some (part 1 7 8))
+    × (destination_in "<>" ≡ Some (part 1 1 2))
+    × (destination_in "<foo\\>" ≡ None)
+    × (destination_in "<a<b>" ≡ None)
+    × (destination_in "<a\nb>" ≡ None)
 unfolding scan closing_step closing destination_of
 angled_destinations = (refl, refl, refl, refl, refl, refl)
 
-titles : (title_in "\"title\"" ≡ Span 1 6 7)
-    × (title_in "'tit\"le'" ≡ Span 1 7 8)
-    × (title_in "(title)" ≡ Span 1 6 7)
-    × (title_in "\"a\\\"b\"" ≡ Span 1 5 6)
-    × (title_in "\"\"" ≡ Span 1 1 2)
-    × (title_in "(a(b)" ≡ Nothing)
-    × (title_in "\"title" ≡ Nothing)
-    × (title_in "title" ≡ Nothing)
+titles : (title_in "\"title\"" ≡ Some (part 1 6 7))
+    × (title_in "'tit\"le'" ≡ Some (part 1 7 8))
+    × (title_in "(title)" ≡ Some (part 1 6 7))
+    × (title_in "\"a\\\"b\"" ≡ Some (part 1 5 6))
+    × (title_in "\"\"" ≡ Some (part 1 1 2))
+    × (title_in "(a(b)" ≡ None)
+    × (title_in "\"title" ≡ None)
+    × (title_in "title" ≡ None)
 unfolding scan closing_step closing closer title_of
 titles = (refl, refl, refl, refl, refl, refl, refl, refl)
 

@@ -1,4 +1,5 @@
--- `character_length` and `good_length` against the law: s begins with a character of n bytes exactly when n is the answer and not 0.
+-- `character_length` and `good_length` against the law: s begins with a character of n bytes exactly when n is the answer.
+use Rattle.std.specs.Prelude.{Some}
 use Prim.Native.Nat.{ℕ, ◌≤◌, ◌<◌}
 use native.Mathlib.Omega.{arith}
 use mathlib.Core.Path.{◌≡◌, refl, sym, ap, ◌∙◌}
@@ -13,24 +14,24 @@ use Rattle.scan.specs.Member.{In}
 use Rattle.scan.proofs.Test.{by, and_left, and_right}
 use Rattle.scan.proofs.Member.{in_nil, in_cons}
 use Rattle.text.specs.Utf8.{ByteRange, table, Fits, Character, GoodCharacter, Begins}
-use Rattle.text.specs.Reading.{leads, row_for, starts, character_length, good_length, barred}
+use Rattle.text.specs.Reading.{leads, row_for, starts, length_by, character_length, good_length, barred}
 use Rattle.scan.proofs.Below.{every, every_at}
 use Rattle.text.proofs.Rows.{starts_length}
 use Rattle.text.proofs.ByOnes.{ascii_length}
 use Rattle.text.proofs.Table.{table_rises, found, nonempty, listed, fits_length, fits_starts, starts_fits}
 
 -- ---- a character by the table
-by_row : (row : List ByteRange) (c rest : List ℕ) → In row table → Fits row c → character_length (c ++ rest) ≡ length c
+by_row : (row : List ByteRange) (c rest : List ℕ) → In row table → Fits row c → character_length (c ++ rest) ≡ Some (length c)
 unfolding character_length
 by_row [] [] rest m f = absurd (nonempty table table_rises m)
 by_row [] (b ∷ c) rest m f = absurd f
 by_row (r ∷ row) [] rest m f = absurd f
 by_row (r ∷ row) (b ∷ c) rest m f =
     let o : leads (r ∷ row) b ≡ true = rw (le-leb _ _ f.0, le-leb _ _ f.1) in
-    rw (found table table_rises m b o, fits_starts (r ∷ row) (b ∷ c) rest f) (fits_length (r ∷ row) (b ∷ c) f)
+    rw (found table table_rises m b o, fits_starts (r ∷ row) (b ∷ c) rest f) (ap Some (fits_length (r ∷ row) (b ∷ c) f))
 
-pub character_complete : {s : List ℕ} {n : ℕ} → Begins Character s n → character_length s ≡ n
-character_complete w = rw w.whole (by_row w.class.row w.one w.rest w.class.listed w.class.fits ∙ w.size)
+pub character_complete : {s : List ℕ} {n : ℕ} → Begins Character s n → character_length s ≡ Some n
+character_complete w = rw w.whole (by_row w.class.row w.one w.rest w.class.listed w.class.fits ∙ ap Some w.size)
 
 begins_row : (row : List ByteRange) (s : List ℕ) (n : ℕ) → In row table → starts row s ≡ true → length row ≡ n → Begins Character s n
 begins_row row s n m w e =
@@ -43,19 +44,23 @@ begins_row row s n m w e =
       class = record { row = row; listed = m; fits = rw e at (starts_fits row s w) };
     }
 
-pub character_sound : (s : List ℕ) (n : ℕ) → 0 < n → character_length s ≡ n → Begins Character s n
-unfolding character_length
-character_sound s n p e =
-    by (starts (row_for table (get_or s 0 0)) s)
-    (λ w. let k : length (row_for table (get_or s 0 0)) ≡ n = rw w at e in
-    begins_row (row_for table (get_or s 0 0)) s n (listed table (get_or s 0 0) (omega arith)) w k)
-    (λ w. let k : 0 ≡ n = rw w at e in let no : ⊥ = omega arith in absurd no)
+by_found : (row : List ByteRange) (s : List ℕ) (n : ℕ) → (0 < length row → In row table) → length_by row s ≡ Some n → Begins Character s n
+by_found [] s n m e = absurd cc
+by_found (r ∷ row) s n m e =
+    by (starts (r ∷ row) s)
+    (λ w. let k : length (r ∷ row) ≡ n = let f = rw w at e in cc in begins_row (r ∷ row) s n (m (omega arith)) w k)
+    (λ w. let f = rw w at e in absurd cc)
 
-pub character_length_lem : (s : List ℕ) (n : ℕ) → 0 < n → (character_length s ≡ n) ↔ Begins Character s n
-character_length_lem s n p = (character_sound s n p, character_complete)
+pub character_sound : (s : List ℕ) (n : ℕ) → character_length s ≡ Some n → Begins Character s n
+unfolding character_length
+character_sound s n e =
+    by_found (row_for table (get_or s 0 0)) s n (listed table (get_or s 0 0)) e
+
+pub character_length_lem : (s : List ℕ) (n : ℕ) → (character_length s ≡ Some n) ↔ Begins Character s n
+character_length_lem s n = (character_sound s n, character_complete)
 
 pub character_unique : {s : List ℕ} {n m : ℕ} → Begins Character s n → Begins Character s m → n ≡ m
-character_unique v w = sym (character_complete v) ∙ character_complete w
+character_unique v w = let e = character_complete v in let f = character_complete w in cc
 
 -- ---- the bytes after the first are not ASCII: one test over the table
 high : ByteRange → Bool
@@ -99,8 +104,9 @@ character_size {c} w = size_by w.row c w.listed w.fits
 pub alone : (b : ℕ) (c : List ℕ) → Character (b ∷ c) → b < 128 → c ≡ []
 alone b [] w h = refl
 alone b (x ∷ c) w h =
-    let e : character_length ((b ∷ x ∷ c) ++ []) ≡ length (b ∷ x ∷ c) = by_row w.row (b ∷ x ∷ c) [] w.listed w.fits in
-    let f : 1 ≡ length (b ∷ x ∷ c) = sym (ascii_length b ((x ∷ c) ++ []) h) ∙ e in
+    let e = by_row w.row (b ∷ x ∷ c) [] w.listed w.fits in
+    let a = ascii_length b ((x ∷ c) ++ []) h in
+    let f : 1 ≡ length (b ∷ x ∷ c) = cc in
     let no : ⊥ = omega arith in absurd no
 
 pub barred_cases : {P : Type 0} (b : ℕ) → barred b ≡ true → (b ≡ 0 → P) → (b ≡ 13 → P) → P
@@ -113,7 +119,7 @@ not_barred (b ∷ c) rest w =
     (λ e. w.not_0 (rw (alone b c w.character (omega arith), e)))
     (λ e. w.not_13 (rw (alone b c w.character (omega arith), e))))) (λ f. f)
 
-pub good_complete : {s : List ℕ} {n : ℕ} → Begins GoodCharacter s n → good_length s ≡ n
+pub good_complete : {s : List ℕ} {n : ℕ} → Begins GoodCharacter s n → good_length s ≡ Some n
 unfolding good_length
 good_complete {s} w =
     let f : barred (get_or s 0 0) ≡ false = rw w.whole (not_barred w.one w.rest w.class) in
@@ -125,12 +131,12 @@ first_byte {s} w f b t q =
     let e : get_or s 0 0 ≡ b = ap (λ (l : List ℕ). get_or l 0 0) (w.whole ∙ ap (λ (l : List ℕ). l ++ w.rest) q) in
     false≢true (sym f ∙ ap barred e ∙ t)
 
-pub good_sound : (s : List ℕ) (n : ℕ) → 0 < n → good_length s ≡ n → Begins GoodCharacter s n
+pub good_sound : (s : List ℕ) (n : ℕ) → good_length s ≡ Some n → Begins GoodCharacter s n
 unfolding good_length
-good_sound s n p e =
+good_sound s n e =
     by (barred (get_or s 0 0))
-    (λ t. let k : 0 ≡ n = rw t at e in let no : ⊥ = omega arith in absurd no)
-    (λ f. let w : Begins Character s n = character_sound s n p (rw f at e) in
+    (λ t. let k = rw t at e in absurd cc)
+    (λ f. let w : Begins Character s n = character_sound s n (rw f at e) in
     record {
       one = w.one;
       rest = w.rest;
@@ -139,5 +145,5 @@ good_sound s n p e =
       class = record { character = w.class; not_0 = first_byte w f 0 refl; not_13 = first_byte w f 13 refl };
     })
 
-pub good_length_lem : (s : List ℕ) (n : ℕ) → 0 < n → (good_length s ≡ n) ↔ Begins GoodCharacter s n
-good_length_lem s n p = (good_sound s n p, good_complete)
+pub good_length_lem : (s : List ℕ) (n : ℕ) → (good_length s ≡ Some n) ↔ Begins GoodCharacter s n
+good_length_lem s n = (good_sound s n, good_complete)

@@ -3,11 +3,11 @@ use Prim.Native.Nat.{ℕ, ◌≤◌}
 use native.Mathlib.Omega.{arith}
 use mathlib.Core.Path.{◌≡◌, refl, sym, ap, subst, ◌∙◌}
 use mathlib.Core.List.{List}
+use Rattle.std.specs.Prelude.{Err, Ok}
 use lib.ListN.{length}
-use Rattle.text.specs.declared.Checked.{Checked}
-use Rattle.text.specs.declared.Checked.TheVariants.{Good, Long, Bad}
+use Rattle.text.specs.declared.Fault.TheVariants.{Long, Bad}
 use Rattle.text.specs.Utf8.{FirstBad, note_limit, TooLong, Unclean, GoodNote}
-use Rattle.text.specs.Reading.{check_of}
+use Rattle.text.specs.Reading.{Checked, check_of}
 use Rattle.text.specs.Promise.{number_of, value_of, Promise}
 use Rattle.text.specs.Claims.{NoteChecked}
 use Rattle.text.proofs.Refusals.{check_long, check_bad, refused_2, good_note}
@@ -19,29 +19,29 @@ promised e = record { answer = e; number = ap number_of e; value = ap value_of e
 module _ (s : List ℕ) where
   -- ---- what a number tells
   number_1 : (r : Checked) → r ≡ check_of s → number_of r ≡ 1 → TooLong s
-  number_1 Good a e = let no : ⊥ = omega arith in absurd no
-  number_1 (Long n) a e = ((check_long s n).0 (sym a)).0
-  number_1 (Bad k) a e = let no : ⊥ = omega arith in absurd no
+  number_1 (Ok done) a e = let no : ⊥ = omega arith in absurd no
+  number_1 (Err (Long n)) a e = ((check_long s n).0 (sym a)).0
+  number_1 (Err (Bad k)) a e = let no : ⊥ = omega arith in absurd no
 
   number_2 : (r : Checked) → r ≡ check_of s → number_of r ≡ 2 → (length s ≤ note_limit) × Unclean s
-  number_2 Good a e = let no : ⊥ = omega arith in absurd no
-  number_2 (Long n) a e = let no : ⊥ = omega arith in absurd no
-  number_2 (Bad k) a e = (refused_2 s).0 (k, sym a)
+  number_2 (Ok done) a e = let no : ⊥ = omega arith in absurd no
+  number_2 (Err (Long n)) a e = let no : ⊥ = omega arith in absurd no
+  number_2 (Err (Bad k)) a e = (refused_2 s).0 (k, sym a)
 
   number_0 : (r : Checked) → r ≡ check_of s → number_of r ≡ 0 → GoodNote s
-  number_0 Good a e = (good_note s).0 (sym a)
-  number_0 (Long n) a e = let no : ⊥ = omega arith in absurd no
-  number_0 (Bad k) a e = let no : ⊥ = omega arith in absurd no
+  number_0 (Ok done) a e = (good_note s).0 (sym a)
+  number_0 (Err (Long n)) a e = let no : ⊥ = omega arith in absurd no
+  number_0 (Err (Bad k)) a e = let no : ⊥ = omega arith in absurd no
 
   -- ---- the theorem
   module _ (r : Checked) (p : Promise s r) where
-    long : TooLong s → r ≡ Long (length s)
+    long : TooLong s → r ≡ Err (Long (length s))
     long h = p.answer ∙ (check_long s (length s)).1 (h, refl)
 
-    bad : (length s ≤ note_limit) × Unclean s → (k : ℕ) × (r ≡ Bad k)
+    bad : (length s ≤ note_limit) × Unclean s → (k : ℕ) × (r ≡ Err (Bad k))
     bad w = let v = (refused_2 s).1 w in (v.0, p.answer ∙ v.1)
 
-    good : GoodNote s → r ≡ Good
+    good : GoodNote s → r ≡ Ok tt
     good g = p.answer ∙ (good_note s).1 g
 
     bad_place : (w : (length s ≤ note_limit) × Unclean s) → FirstBad s (value_of r)

@@ -1,5 +1,7 @@
 -- What finding a row by its first byte, and holding a text against it, tell.
-use Prim.Native.Nat.{ℕ, ◌≤◌, zero-le, suc-le-suc}
+use Rattle.std.specs.Prelude.{Some}
+use Prim.Native.Nat.{ℕ, ◌≤◌, ◌<◌, zero-le, suc-le-suc}
+use native.Mathlib.Omega.{arith}
 use mathlib.Core.Path.{◌≡◌, refl}
 use mathlib.Core.Bool.{true, false, false≢true, ◌&&◌}
 use mathlib.Core.List.{List, [], ◌∷◌}
@@ -44,14 +46,15 @@ starts_found [] b s = refl
 starts_found (row ∷ rows) b s =
     by (leads row b) (λ e. rw (row_here row rows b e) (starts_opened row b s e)) (λ e. rw (row_later row rows b e) (starts_found rows b s))
 
--- ---- no character is longer than what is left
-by_within : (row : List ByteRange) (s : List ℕ) → length_by row s ≤ length s
-by_within row s = by (starts row s) (λ e. rw e (starts_length row s e)) (λ e. rw e zero-le)
+-- ---- a character has one byte or more, and no more than are left
+by_size : (row : List ByteRange) (s : List ℕ) {n : ℕ} → length_by row s ≡ Some n → (0 < n) × (n ≤ length s)
+by_size [] s e = absurd cc
+by_size (r ∷ row) s {n} e =
+    by (starts (r ∷ row) s)
+    (λ w. let h = starts_length (r ∷ row) s w in let q : length (r ∷ row) ≡ n = let f = rw w at e in cc in (omega arith, omega arith))
+    (λ w. let f = rw w at e in absurd cc)
 
-pub character_within : (s : List ℕ) → character_length s ≤ length s
-unfolding character_length
-character_within s = by_within (row_for table (get_or s 0 0)) s
-
-pub good_within : (s : List ℕ) → good_length s ≤ length s
-unfolding good_length
-good_within s = by (barred (get_or s 0 0)) (λ e. rw e zero-le) (λ e. rw e (character_within s))
+pub good_size : (s : List ℕ) {n : ℕ} → good_length s ≡ Some n → (0 < n) × (n ≤ length s)
+unfolding good_length character_length
+good_size s e =
+    by (barred (get_or s 0 0)) (λ b. let f = rw b at e in absurd cc) (λ b. by_size (row_for table (get_or s 0 0)) s (rw b at e))

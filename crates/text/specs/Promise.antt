@@ -1,20 +1,19 @@
 -- What `check` promises of a note. Document 01, "Refusal numbers".
-use Rattle.std.specs.Prelude.{ℕ, ◌≡◌, List}
-use Rattle.text.specs.declared.Checked.{Checked}
-use Rattle.text.specs.declared.Checked.TheVariants.{Good, Long, Bad}
-use Rattle.text.specs.Reading.{check_of}
+use Rattle.std.specs.Prelude.{ℕ, ◌≡◌, List, Err, Ok}
+use Rattle.text.specs.declared.Fault.TheVariants.{Long, Bad}
+use Rattle.text.specs.Reading.{Checked, check_of}
 
 -- "Success is number 0", and the refusals that a note's bytes alone decide
 abbrev pub number_of : Checked → ℕ
-number_of Good = 0
-number_of (Long size) = 1
-number_of (Bad place) = 2
+number_of (Ok done) = 0
+number_of (Err (Long size)) = 1
+number_of (Err (Bad place)) = 2
 
 -- "Returned with it": "its length"; "where reading from the start first meets no good character"
 abbrev pub value_of : Checked → ℕ
-value_of Good = 0
-value_of (Long size) = size
-value_of (Bad place) = place
+value_of (Ok done) = 0
+value_of (Err (Long size)) = size
+value_of (Err (Bad place)) = place
 
 -- for the note s the answer is r
 pub record Promise (s : List ℕ) (r : Checked) : Type 0 where

@@ -1,11 +1,9 @@
 -- Reading UTF-8 from the front: how long a character is, and where the first bad one stands.
-use Rattle.std.specs.Prelude.{ℕ, zero, suc, ◌+◌, ◌%◌, List, [], ◌∷◌, Bool, true, false, cond, ◌&&◌, ◌||◌, eqb, ltb, length, get_or}
+use Rattle.std.specs.Prelude.{ℕ, zero, suc, ◌+◌, ◌-◌, ◌%◌, List, [], ◌∷◌, Bool, true, false, cond, ◌&&◌, ◌||◌, not, leb, eqb, ltb, length, get_or, None, Option, Some, Err, Ok, Result}
 use Rattle.scan.specs.Byte.{within}
-use Rattle.scan.specs.Reading.{clear, past_strides}
-use Rattle.scan.specs.declared.Found.{Found}
-use Rattle.scan.specs.declared.Found.TheVariants.{At, Nothing}
-use Rattle.text.specs.declared.Checked.{Checked}
-use Rattle.text.specs.declared.Checked.TheVariants.{Good, Long, Bad}
+use Rattle.scan.specs.Reading.{past_strides}
+use Rattle.text.specs.declared.Fault.{Fault}
+use Rattle.text.specs.declared.Fault.TheVariants.{Long, Bad}
 use Rattle.text.specs.Utf8.{ByteRange, table, note_limit}
 
 -- ---- the character at the front
@@ -30,11 +28,12 @@ starts [] s = true
 starts (r ∷ row) [] = false
 starts (r ∷ row) (b ∷ s) = covers r b && starts row s
 
-abbrev pub length_by : List ByteRange → List ℕ → ℕ
-length_by row s = cond (starts row s) (length row) 0
+abbrev pub length_by : List ByteRange → List ℕ → Option ℕ
+length_by [] s = None
+length_by (r ∷ row) s = cond (starts (r ∷ row) s) (Some (length (r ∷ row))) None
 
--- the length of the character that s starts with, 0 where none does
-unfoldable pub character_length : List ℕ → ℕ
+-- the length of the character that s starts with, where one does
+unfoldable pub character_length : List ℕ → Option ℕ
 character_length s = length_by (row_for table (get_or s 0 0)) s
 
 -- ---- the same by what the first byte of a longer character asks of the bytes after it
@@ -64,36 +63,40 @@ continuation x = within 0x80 0xBF x
 abbrev pub barred : ℕ → Bool
 barred b = eqb b 0 || eqb b 13
 
--- the length of the good character that s starts with, 0 where none does
-unfoldable pub good_length : List ℕ → ℕ
-good_length s = cond (barred (get_or s 0 0)) 0 (character_length s)
+-- the length of the good character that s starts with, where one does
+unfoldable pub good_length : List ℕ → Option ℕ
+good_length s = cond (barred (get_or s 0 0)) None (character_length s)
 
 -- ---- the first place where no good character starts
 
 -- a byte that is a good character by itself
 abbrev pub good_ascii : ℕ → Bool
-good_ascii b = clear 127 13 13 0 0 0 b
+good_ascii b = leb b 127 && not (barred b)
 
 -- past whole strides of such bytes, at every sixteenth place
 unfoldable pub past_ascii : List ℕ → ℕ → ℕ
 past_ascii s at = elim (eqb (at % 16) 0) [ true ↦ past_strides good_ascii s at | false ↦ at ]
 
 -- the same where the first k bytes of s, which stands at place `at`, are passed unread
-unfoldable pub first_bad_past : ℕ → List ℕ → ℕ → Found
-first_bad_past k [] at = Nothing
-first_bad_past zero (b ∷ s) at = elim (good_length (b ∷ s)) [ zero ↦ At at | suc n ↦ first_bad_past n s (at + 1) ]
+unfoldable pub first_bad_past : ℕ → List ℕ → ℕ → Option ℕ
+first_bad_past k [] at = None
+first_bad_past zero (b ∷ s) at = elim (good_length (b ∷ s)) [ None ↦ Some at | Some n ↦ first_bad_past (n - 1) s (at + 1) ]
 first_bad_past (suc k) (b ∷ s) at = first_bad_past k s (at + 1)
 
 -- the first place of s where no good character starts; s stands at place `at`
-unfoldable pub first_bad : List ℕ → ℕ → Found
+unfoldable pub first_bad : List ℕ → ℕ → Option ℕ
 first_bad s at = first_bad_past 0 s at
 
 -- ---- a note
 
-abbrev pub checked_by : Found → Checked
-checked_by (At k) = Bad k
-checked_by Nothing = Good
+-- nothing, or why the note is refused
+abbrev pub Checked : Type 0
+Checked = Result (Unit {0}) Fault
+
+abbrev pub checked_by : Option ℕ → Checked
+checked_by (Some k) = Err (Bad k)
+checked_by None = Ok tt
 
 -- too long, with its length; or bad, with the place; or neither
 unfoldable pub check_of : List ℕ → Checked
-check_of s = elim (ltb note_limit (length s)) [ true ↦ Long (length s) | false ↦ checked_by (first_bad s 0) ]
+check_of s = elim (ltb note_limit (length s)) [ true ↦ Err (Long (length s)) | false ↦ checked_by (first_bad s 0) ]

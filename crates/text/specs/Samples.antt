@@ -1,7 +1,6 @@
 -- Texts, and what reading each gives, by computation.
-use Rattle.std.specs.Prelude.{ℕ, ◌≡◌, refl, List, [], ◌∷◌, map, replicate}
-use Rattle.scan.specs.declared.Found.TheVariants.{At, Nothing}
-use Rattle.text.specs.declared.Checked.TheVariants.{Long, Bad}
+use Rattle.std.specs.Prelude.{ℕ, ◌≡◌, refl, List, [], ◌∷◌, map, replicate, None, Some, Err}
+use Rattle.text.specs.declared.Fault.TheVariants.{Long, Bad}
 use Rattle.text.specs.Utf8.{table}
 use Rattle.text.specs.Sequences.{ones_from, leading_ones, sequence_length, characters}
 use Rattle.text.specs.Reading.{row_for, starts, character_length, good_length, first_bad_past, first_bad, check_of}
@@ -34,7 +33,7 @@ bad =
     ∷ (0xE2 ∷ 0x82 ∷ 0xAC ∷ 0x0D ∷ 0x0A ∷ [], 3)
     ∷ []
 
-bad_read : map (λ (x : List ℕ × ℕ). first_bad x.0 0) bad ≡ map (λ (x : List ℕ × ℕ). At x.1) bad
+bad_read : map (λ (x : List ℕ × ℕ). first_bad x.0 0) bad ≡ map (λ (x : List ℕ × ℕ). Some x.1) bad
 unfolding bad table row_for starts character_length good_length first_bad_past first_bad
 bad_read = refl
 
@@ -56,7 +55,7 @@ good =
     ∷ (0xF4 ∷ 0x80 ∷ 0x80 ∷ 0x80 ∷ 0xF4 ∷ 0x8F ∷ 0xBF ∷ 0xBF ∷ [], 2)
     ∷ []
 
-good_read : map (λ (x : List ℕ × ℕ). first_bad x.0 0) good ≡ map (λ (x : List ℕ × ℕ). Nothing) good
+good_read : map (λ (x : List ℕ × ℕ). first_bad x.0 0) good ≡ map (λ (x : List ℕ × ℕ). None) good
 unfolding good table row_for starts character_length good_length first_bad_past first_bad
 good_read = refl
 
@@ -65,10 +64,10 @@ unfolding good characters sequence_length leading_ones ones_from
 good_counted = refl
 
 -- ---- a note past the limit, and a bad one
-past_limit : check_of (replicate 32769 97) ≡ Long 32769
+past_limit : check_of (replicate 32769 97) ≡ Err (Long 32769)
 unfolding check_of
 past_limit = refl
 
-bad_note : check_of (97 ∷ 13 ∷ []) ≡ Bad 1
+bad_note : check_of (97 ∷ 13 ∷ []) ≡ Err (Bad 1)
 unfolding check_of table row_for starts character_length good_length first_bad_past first_bad
 bad_note = refl

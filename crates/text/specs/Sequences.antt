@@ -1,5 +1,5 @@
 -- The length that a first byte announces, and how many characters a text has.
-use Rattle.std.specs.Prelude.{ℕ, zero, suc, ◌+◌, ◌/◌, ◌%◌, ◌^◌, List, [], ◌∷◌, Bool, true, false, cond, ◌||◌, eqb, ltb}
+use Rattle.std.specs.Prelude.{ℕ, zero, suc, ◌/◌, ◌%◌, ◌^◌, List, Bool, true, false, cond, ◌||◌, eqb, ltb, None, Option, Some, is_some, count_by}
 
 -- bit k of b, where bit 0 is the lowest
 abbrev pub bit : ℕ → ℕ → Bool
@@ -14,19 +14,17 @@ ones_from (suc k) b = elim (bit k b) [ true ↦ suc (ones_from k b) | false ↦ 
 unfoldable pub leading_ones : ℕ → ℕ
 leading_ones b = ones_from 8 b
 
--- "where none means one byte; one or more than four is ill-formed": 0 says that no sequence starts so
-abbrev pub length_by_ones : ℕ → ℕ
-length_by_ones n = cond (eqb n 0) 1 (cond (eqb n 1 || ltb 4 n) 0 n)
+-- "where none means one byte; one or more than four is ill-formed": no sequence starts so
+abbrev pub length_by_ones : ℕ → Option ℕ
+length_by_ones n = cond (eqb n 0) (Some 1) (cond (eqb n 1 || ltb 4 n) None (Some n))
 
 -- "A sequence length is the count of leading one bits of its first byte"
-unfoldable pub sequence_length : ℕ → ℕ
+unfoldable pub sequence_length : ℕ → Option ℕ
 sequence_length b = length_by_ones (leading_ones b)
 
--- 1 where b starts a sequence, 0 where it does not
-abbrev pub starting : ℕ → ℕ
-starting b = cond (eqb (sequence_length b) 0) 0 1
+abbrev pub starts_sequence : ℕ → Bool
+starts_sequence b = is_some (sequence_length b)
 
 -- how many bytes of l start a sequence; of well-formed text that is the count of its "characters (code points)" (Claims `SequencesCounted`)
 unfoldable pub characters : List ℕ → ℕ
-characters [] = 0
-characters (b ∷ l) = starting b + characters l
+characters l = count_by starts_sequence l

@@ -1,77 +1,49 @@
 -- Lines 1 and 2 of the table hold, for each text, of whatever keeps the promise of `check`.
+use Rattle.std.specs.Prelude.{Err, Ok}
 use Prim.Native.Nat.{ℕ}
 use native.Mathlib.Omega.{arith}
 use mathlib.Core.Path.{◌≡◌, refl, sym, ap, subst, ◌∙◌}
 use lib.ListN.{length}
 use Rattle.text.specs.Utf8.{FirstBad}
-use Rattle.text.specs.declared.Checked.{Checked as Check}
-use Rattle.text.specs.declared.Checked.TheVariants as check
-use Rattle.text.specs.Promise as text
-use Rattle.text.specs.Reading.{check_of}
-use Rattle.texts.specs.declared.Checked.{Checked}
-use Rattle.texts.specs.declared.Checked.TheVariants.{Good, Long, Bad}
+use Rattle.texts.specs.declared.Fault.TheVariants.{Long, Bad}
 use Rattle.texts.specs.Texts.{Texts, text_of}
 use Rattle.texts.specs.Answers.{Due1, Due2, GoodTexts}
-use Rattle.texts.specs.Reading.{refused_or}
+use Rattle.texts.specs.Reading.{Checked, checked}
 use Rattle.texts.specs.Reading as both
 use Rattle.texts.specs.Promise.{number_of, value_of, named_of, Promise}
 use Rattle.texts.specs.Claims.{TextsChecked}
-use Rattle.texts.proofs.Refusals.{by_note, by_both, check_long, check_bad, bad_place, good_texts}
+use Rattle.texts.proofs.Refusals.{check_long, check_bad, bad_place, good_texts}
 
 -- an answer that is the reading keeps the promise
 pub promised : {T : Texts} {r : Checked} → r ≡ both.check_of T → Promise T r
 promised e = record { answer = e; number = ap number_of e; value = ap value_of e; named = ap named_of e }
 
--- ---- what the checks of the two texts told, by the promises that they keep
-module _ {T : Texts} {a : Check} (p : text.Promise T.note a) where
-  note_refused : (c : Check) → a ≡ c → {r : Checked} → r ≡ refused_or 0 c (refused_or 1 (check_of T.sheet) Good) → Promise T r
-  note_refused c e q = promised (q ∙ sym (by_note T c (sym p.answer ∙ e)))
-
-  pub note_long : {n : ℕ} → a ≡ check.Long n → Promise T (Long 0 n)
-  note_long {n} e = note_refused (check.Long n) e refl
-
-  pub note_bad : {k : ℕ} → a ≡ check.Bad k → Promise T (Bad 0 k)
-  note_bad {k} e = note_refused (check.Bad k) e refl
-
-  module _ (g : a ≡ check.Good) {b : Check} (q : text.Promise T.sheet b) where
-    sheet_refused : (c : Check) → b ≡ c → {r : Checked} → r ≡ refused_or 1 c Good → Promise T r
-    sheet_refused c e z = promised (z ∙ sym (by_both T check.Good c (sym p.answer ∙ g) (sym q.answer ∙ e)))
-
-    pub sheet_long : {n : ℕ} → b ≡ check.Long n → Promise T (Long 1 n)
-    sheet_long {n} e = sheet_refused (check.Long n) e refl
-
-    pub sheet_bad : {k : ℕ} → b ≡ check.Bad k → Promise T (Bad 1 k)
-    sheet_bad {k} e = sheet_refused (check.Bad k) e refl
-
-    pub both_good : b ≡ check.Good → Promise T Good
-    both_good e = sheet_refused check.Good e refl
-
 module _ (T : Texts) where
   -- ---- what a number and a text tell
   number_1 : (r : Checked) → both.check_of T ≡ r → (k : ℕ) → (number_of r ≡ 1) × (named_of r ≡ k) → Due1 T k
-  number_1 Good a k (e, f) = absurd (omega arith)
-  number_1 (Long j n) a k (e, f) = subst (Due1 T) f ((check_long T j n).0 a).0
-  number_1 (Bad j p) a k (e, f) = absurd (omega arith)
+  number_1 (Ok done) a k (e, f) = absurd (omega arith)
+  number_1 (Err (Long j n)) a k (e, f) = subst (Due1 T) f ((check_long T j n).0 a).0
+  number_1 (Err (Bad j p)) a k (e, f) = absurd (omega arith)
 
   number_2 : (r : Checked) → both.check_of T ≡ r → (k : ℕ) → (number_of r ≡ 2) × (named_of r ≡ k) → Due2 T k
-  number_2 Good a k (e, f) = absurd (omega arith)
-  number_2 (Long j n) a k (e, f) = absurd (omega arith)
-  number_2 (Bad j p) a k (e, f) = subst (Due2 T) f ((check_bad T j p).0 a).0
+  number_2 (Ok done) a k (e, f) = absurd (omega arith)
+  number_2 (Err (Long j n)) a k (e, f) = absurd (omega arith)
+  number_2 (Err (Bad j p)) a k (e, f) = subst (Due2 T) f ((check_bad T j p).0 a).0
 
   number_0 : (r : Checked) → both.check_of T ≡ r → number_of r ≡ 0 → GoodTexts T
-  number_0 Good a e = (good_texts T).0 a
-  number_0 (Long j n) a e = absurd (omega arith)
-  number_0 (Bad j p) a e = absurd (omega arith)
+  number_0 (Ok done) a e = (good_texts T).0 a
+  number_0 (Err (Long j n)) a e = absurd (omega arith)
+  number_0 (Err (Bad j p)) a e = absurd (omega arith)
 
   -- ---- the theorem
   module _ (r : Checked) (p : Promise T r) where
-    long : {k : ℕ} → Due1 T k → r ≡ Long k (length (text_of T k))
+    long : {k : ℕ} → Due1 T k → r ≡ Err (Long k (length (text_of T k)))
     long {k} d = p.answer ∙ (check_long T k (length (text_of T k))).1 (d, refl)
 
-    bad : {k : ℕ} → Due2 T k → (place : ℕ) × ((r ≡ Bad k place) × FirstBad (text_of T k) place)
+    bad : {k : ℕ} → Due2 T k → (place : ℕ) × ((r ≡ Err (Bad k place)) × FirstBad (text_of T k) place)
     bad {k} d = let (q, f) = bad_place T d in (q, (p.answer ∙ (check_bad T k q).1 (d, f), f))
 
-    good : GoodTexts T → r ≡ Good
+    good : GoodTexts T → r ≡ Ok tt
     good g = p.answer ∙ (good_texts T).1 g
 
     pub texts_checked : TextsChecked T r

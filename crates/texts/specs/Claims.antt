@@ -2,9 +2,9 @@
 use Rattle.std.specs.Prelude.{ℕ, ◌≡◌, length}
 use Rattle.refusal.specs.Given.{Given, GivenFor}
 use Rattle.text.specs.Utf8.{FirstBad}
-use Rattle.texts.specs.declared.Checked.{Checked}
 use Rattle.texts.specs.Texts.{Texts, text_of}
 use Rattle.texts.specs.Answers.{Due1, Due2, GoodTexts}
+use Rattle.texts.specs.Reading.{Checked}
 use Rattle.texts.specs.Promise.{number_of, value_of, named_of}
 
 -- Lines 1 and 2 of the table, for each text, of the answer r to the texts T.

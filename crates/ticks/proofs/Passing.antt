@@ -1,4 +1,5 @@
 -- One pass over the runs of backticks: each run that starts before place i is in the table, and none goes on from there.
+use Rattle.std.specs.Prelude.{None}
 use Prim.Native.Nat.{ℕ, zero, suc, ◌+◌, ◌-◌, ◌≤◌, ◌<◌}
 use native.Mathlib.Omega.{arith}
 use mathlib.Core.Path.{◌≡◌, refl, sym, ap, ◌∙◌}
@@ -11,12 +12,11 @@ use lib.Dec.{ltb, eqb}
 use Rattle.scan.proofs.Test.{by}
 use Rattle.scan.specs.Reading.{run, past}
 use Rattle.scan.proofs.Every.{run_iff}
-use Rattle.scan.specs.declared.Found.TheVariants.{Nothing}
 use Rattle.inline.specs.Pieces.{backtick, MaximalBackticks}
 use Rattle.inline.specs.ReadingPieces.{closing_run}
 use Rattle.inline.proofs.Ticks.{tick, ticks_in, ticks_first, as_backticks, front_halts}
 use Rattle.inline.proofs.CodeSpans.{order, no_closing_run_iff}
-use Rattle.ticks.specs.LastRuns.{lengths, other_byte, EndsAt, LastRuns, Ready}
+use Rattle.ticks.specs.LastRuns.{lengths, other_byte, EndsAt, LastRuns}
 use Rattle.ticks.proofs.Past.{past_low, past_in, tick_on}
 
 both : {A : Type 0} {b : Bool} → b ≡ true → b ≡ false → A
@@ -127,14 +127,6 @@ module _ (p : List ℕ) (i : ℕ) (t : List ℕ) (s : Seen p i t) {a e : ℕ} (q
         real = still_real;
       })
 
--- place 0 is no run's
-told : (p t : List ℕ) → LastRuns p t → LastRuns p (set t 0 1)
-told p t r =
-    record {
-      covers = λ n b h m. let g = m.run.nonempty in omega (arith, r.covers n b h m, get_or-set_other t 0 n 1 0 (λ q. omega arith));
-      real = λ n g h l. let e = get_or-set_other t 0 n 1 0 (λ q. omega arith) in rw e (r.real n g h (omega arith));
-    }
-
 -- ---- the loop's two ends
 pub begins : (p : List ℕ) → Seen p 0 (replicate lengths 0)
 begins p =
@@ -146,25 +138,21 @@ begins p =
     }
 
 module _ (p : List ℕ) (i : ℕ) (t : List ℕ) (s : Seen p i t) where
-  pub all_seen : length p ≤ i → LastRuns p (set t 0 1)
+  pub all_seen : length p ≤ i → LastRuns p t
   all_seen h =
-      told p t
-      (record {
+      record {
         covers = λ n b l m. let g = m.run.nonempty in s.covers n b l m (omega (arith, run_inside p b n m));
         real = s.real;
-      })
-
-  pub told_made : 0 < get_or (set t 0 1) 0 0
-  told_made = omega (arith, get_or-set_same t 0 1 0 (omega (arith, s.size)))
+      }
 
 -- ---- a search that the table spares
 module _ (p t : List ℕ) (r : LastRuns p t) (at n : ℕ) (some : 0 < n) (starts : tick p at ≡ false) where
-  pub none_later : n < lengths → get_or t n 0 ≤ at → Nothing ≡ closing_run n (drop at p) at
+  pub none_later : n < lengths → get_or t n 0 ≤ at → None ≡ closing_run n (drop at p) at
   none_later h l =
       sym ((no_closing_run_iff p at n some starts).1 (λ b k m. omega (arith, r.covers n b h m)))
 
   -- and where a search is made for a run that the table has a place for, it finds one
-  pub some_later : n < lengths → at < get_or t n 0 → closing_run n (drop at p) at ≡ Nothing → ⊥
+  pub some_later : n < lengths → at < get_or t n 0 → closing_run n (drop at p) at ≡ None → ⊥
   some_later h l e =
       let x = r.real n some h (omega arith) in
       (no_closing_run_iff p at n some starts).0 e x.place
@@ -175,11 +163,6 @@ module _ (p t : List ℕ) (r : LastRuns p t) (at n : ℕ) (some : 0 < n) (starts
     where
       starts_at : (a : ℕ) → a < at → tick p (a + (at - a)) ≡ false
       starts_at a o = let q : a + (at - a) ≡ at = omega arith in rw q starts
-
--- ---- for those who keep a table from one text to the next: it is to be made anew
-pub unmade : (p t : List ℕ) → Ready p (set t 0 0)
-unmade p [] = record { made = λ h. let no : ⊥ = omega arith in absurd no }
-unmade p (x ∷ t) = record { made = λ h. let no : ⊥ = omega arith in absurd no }
 
 -- some backticks are passed where one stands
 pub past_some : (p : List ℕ) (at : ℕ) → at < length p → get_or p at 0 ≡ 96 → at < past backtick p at

@@ -1,38 +1,17 @@
--- The place past the backticks, and past other bytes: the same from every place passed, by a byte or by strides.
+-- The place past the backticks, and past other bytes.
 use Prim.Native.Nat.{ℕ, zero, suc, ◌+◌, ◌-◌, ◌≤◌, ◌<◌}
 use native.Mathlib.Omega.{arith}
 use mathlib.Core.Path.{◌≡◌, refl, sym, ap, ◌∙◌}
-use mathlib.Core.Bool.{Bool, true, false, true≢false, beq, not}
+use mathlib.Core.Bool.{Bool, true, false, not}
 use mathlib.Core.List.{List, [], ◌∷◌}
 use borrow.Author.Tests.{eq-eqb, ne_eqb, eqb-true, eqb-false}
 use lib.ListN.{length, get_or, drop, length-drop}
 use lib.Seq.{get_or-drop}
-use Rattle.scan.specs.Reading.{run, past, like, past_strides}
+use Rattle.scan.specs.Reading.{run, past}
 use Rattle.scan.proofs.Test.{by}
 use Rattle.scan.proofs.Scan.{run_yes, run_no, run_fits, past_on, past_stop}
-use Rattle.scan.proofs.Strides.{past_through}
 use Rattle.inline.specs.Pieces.{backtick}
 use Rattle.ticks.specs.LastRuns.{other_byte}
-
--- ---- what the strides pass
-abbrev pub tick_stride : ℕ → Bool
-tick_stride b = like 96 true b
-
-abbrev pub other_stride : ℕ → Bool
-other_stride b = like 96 false b
-
-stride_tick : (b : ℕ) → tick_stride b ≡ true → backtick b ≡ true
-stride_tick b e = by (backtick b) (λ t. t) (λ t. absurd (true≢false (sym e ∙ ap (λ (k : Bool). beq k true) t)))
-
-stride_other : (b : ℕ) → other_stride b ≡ true → other_byte b ≡ true
-stride_other b e = by (backtick b) (λ t. absurd (true≢false (sym e ∙ ap other_stride (eqb-true b 96 t)))) (λ t. rw t)
-
-module _ (s : List ℕ) (at : ℕ) {i : ℕ} where
-  pub tick_strides : i ≡ past_strides tick_stride s at → past backtick s i ≡ past backtick s at
-  tick_strides = past_through tick_stride backtick stride_tick s at
-
-  pub other_strides : i ≡ past_strides other_stride s at → past other_byte s i ≡ past other_byte s at
-  other_strides = past_through other_stride other_byte stride_other s at
 
 -- ---- a byte, with what the code knows of it
 module _ (s : List ℕ) (i : ℕ) {r : ℕ} (h : i < length s) where

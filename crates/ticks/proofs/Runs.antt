@@ -1,4 +1,5 @@
 -- A search for a maximal run of n backticks goes over other bytes and over runs of another length; a run of n answers it.
+use Rattle.std.specs.Prelude.{None, Option, Some}
 use Prim.Native.Nat.{ℕ, suc, ◌+◌, ◌-◌, ◌≤◌, ◌<◌}
 use native.Mathlib.Nat.{add-zero, zero-add}
 use native.Mathlib.Omega.{arith}
@@ -9,8 +10,6 @@ use borrow.Author.Tests.{eq-eqb, ne_eqb, not-true}
 use lib.ListN.{length, drop}
 use lib.Seq.{drop-drop}
 use Rattle.scan.specs.Reading.{scan, run, past}
-use Rattle.scan.specs.declared.Found.{Found}
-use Rattle.scan.specs.declared.Found.TheVariants.{At, Nothing}
 use Rattle.scan.specs.Every.{Halts, empty, other}
 use Rattle.scan.proofs.Test.{by}
 use Rattle.scan.proofs.Scan.{run_yes, run_no, scan_cons, ends}
@@ -50,7 +49,7 @@ module _ (n : ℕ) where
   over_other b l at c e h = scan_cons (run_step n) (run_done n) b l (counted at c) (passed n (counted at c) b (b ∷ l) (simp (e, ne_eqb c n h)) (simp e))
 
   -- after a run
-  full : (l : List ℕ) (at c : ℕ) → Halts backtick l → c ≡ n → run_from n l (counted at c) ≡ At at
+  full : (l : List ℕ) (at c : ℕ) → Halts backtick l → c ≡ n → run_from n l (counted at c) ≡ Some at
   unfolding scan
   full _ at c empty h = ends_full n (counted at c) h
   full _ at c (other {b} {l} e) h = scan_cons (run_step n) (run_done n) b l (counted at c) (closes n (counted at c) b (b ∷ l) (simp (e, eq-eqb c n h)))
@@ -79,7 +78,7 @@ module _ (n : ℕ) where
           (λ b l k e. let p : a + (k + 1) ≡ a + k + 1 = omega arith in rw p (over_tick b l (a + k) k e)) (drop a s) 0))
 
       -- ---- one turn, with the loop's invariant in hand
-      module _ (i : ℕ) {r : Found} (inv : closing_run n (drop i s) i ≡ r) where
+      module _ (i : ℕ) {r : Option ℕ} (inv : closing_run n (drop i s) i ≡ r) where
         module _ {a e : ℕ} (p : a ≡ past other_byte s i) (q : e ≡ past backtick s a) where
           size : e - a ≡ run backtick (drop a s)
           unfolding past
@@ -92,13 +91,13 @@ module _ (n : ℕ) where
           unfolding past
           halts = rw (q, ← drop-drop (run backtick (drop a s)) a s) (after_front backtick (drop a s))
 
-          pub run_closes : e - a ≡ n → At e ≡ r
+          pub run_closes : e - a ≡ n → Some e ≡ r
           run_closes h = sym (full (drop e s) e (e - a) halts h) ∙ from_run
 
           pub run_passed : (e - a ≡ n → ⊥) → closing_run n (drop e s) e ≡ r
           unfolding closing_run
           run_passed h = sym (unlike (drop e s) e (e - a) halts h) ∙ from_run
 
-        pub none_left : length s ≤ i → Nothing ≡ r
+        pub none_left : length s ≤ i → None ≡ r
         unfolding closing_run
         none_left h = ends (run_step n) (run_done n) s i inv h (ends_other n (counted i 0) not_none)

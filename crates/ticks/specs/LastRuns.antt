@@ -1,5 +1,5 @@
--- For each n below a bound where the last maximal run of exactly n backticks ends. No run is 0 long: place 0 of the table tells that the table is made.
-use Rattle.std.specs.Prelude.{ℕ, ◌+◌, ◌≤◌, ◌<◌, ◌≡◌, List, Bool, not, get_or}
+-- For each n below a bound where the last maximal run of exactly n backticks ends.
+use Rattle.std.specs.Prelude.{ℕ, ◌+◌, ◌≤◌, ◌<◌, ◌≡◌, List, Bool, not, get_or, Option, IfSome}
 use Rattle.inline.specs.Pieces.{backtick, MaximalBackticks}
 
 -- a byte that is no backtick
@@ -22,6 +22,6 @@ pub record LastRuns (p t : List ℕ) : Type 0 where
   -- and what the table says, where it is not 0, is the end of one
   pub real : (n : ℕ) → 0 < n → n < lengths → 0 < get_or t n 0 → EndsAt p n (get_or t n 0)
 
--- The table is made, which its place 0 tells, or is still to be made.
-pub record Ready (p t : List ℕ) : Type 0 where
-  pub made : 0 < get_or t 0 0 → LastRuns p t
+-- the table is made, or is still to be made
+abbrev pub Ready : List ℕ → Option (List ℕ) → Type 0
+Ready p t = IfSome t (LastRuns p)

@@ -1,4 +1,5 @@
 -- What a step meets that goes over definitions and paragraphs in one pass.
+use Rattle.std.specs.Prelude.{None, Option, Some}
 use Prim.Native.Nat.{ℕ, ◌-◌, ◌≤◌, ◌<◌}
 use native.Mathlib.Omega.{arith}
 use mathlib.Core.Path.{◌≡◌, refl, sym, ap, ◌∙◌}
@@ -9,19 +10,16 @@ use lib.Seq.{length-take-le}
 use Rattle.block.specs.Block.{Placed}
 use Rattle.row.specs.declared.Definition.{Definition}
 use Rattle.definition.specs.declared.Entry.{Entry}
-use Rattle.definition.specs.declared.Entry.TheVariants.{Defined, Nothing}
-use Rattle.definition.specs.Reading.{definition_at, Taking, definitions_from, definitions_in, paragraph_end, paragraph_from, paragraphs_in}
+use Rattle.definition.specs.Reading.{entry, definition_at, Taking, definitions_from, definitions_in, paragraph_end, paragraph_from, paragraphs_in}
 use Rattle.definition.proofs.Places.{definition_onward}
 use Rattle.definition.proofs.Takings.{none_from, by_entry, turn_over, turn_taken}
-use Rattle.walk.specs.declared.Block.{Block}
-use Rattle.walk.specs.declared.Block.TheVariants as block
 use Rattle.walk.specs.declared.Cursor.{Cursor}
 use Rattle.walk.specs.declared.Item.{Item}
 use Rattle.walk.specs.declared.Item.TheVariants as item
 use Rattle.walk.specs.Reading.{blocks_from, paragraphs_from, definitions_after, paragraphs_after, next_of}
-use Rattle.walk.specs.Promise.{IsBlock, FirstBlock, Standing, LineEnds, ItemDefinition, ItemParagraph, NoItem, IsItem}
+use Rattle.walk.specs.Promise.{FirstBlock, Standing, LineEnds, ItemDefinition, ItemParagraph, NoItem, IsItem}
 use Rattle.walk.proofs.Ends.{ends_next}
-use Rattle.walk.proofs.Steps.{cursor, cut, end_within, definition_here, found_block, found_definitions, found_paragraphs}
+use Rattle.walk.proofs.Steps.{cursor, cut, end_within, definition_here, found_definitions, found_paragraphs}
 
 -- past the end no definition is taken
 none_taken : (s : List ℕ) (at : ℕ) → length s ≤ at → definitions_from s at ≡ none_from at
@@ -43,17 +41,17 @@ module _ (s : List ℕ) (c : Cursor) (between : c.end ≤ c.at) where
       ∙ rw (le-leb (length (take c.end s)) c.at (omega (arith, length-take c.end s)))
 
 -- ---- inside a block
-module _ (s : List ℕ) (c : Cursor) (stands : Standing s c) (lined : LineEnds s c.end) (before : c.at < c.end) {x : Entry} (entry_is : x ≡ definition_at (take c.end s) c.at) where
-  pub item_definition : {d : Definition} {n : ℕ} → x ≡ Defined d n → ItemDefinition s c d (cursor n c.end)
+module _ (s : List ℕ) (c : Cursor) (stands : Standing s c) (lined : LineEnds s c.end) (before : c.at < c.end) {x : Option Entry} (entry_is : x ≡ definition_at (take c.end s) c.at) where
+  pub item_definition : {e : Entry} → x ≡ Some e → ItemDefinition s c e.definition (cursor e.next c.end)
   unfolding paragraphs_after
-  item_definition {d} {n} e = record {
-    here = definition_here s c c.at c.end refl entry_is (omega arith) stands.inside e;
+  item_definition {e} q = record {
+    here = definition_here s c c.at c.end refl entry_is (omega arith) stands.inside q;
     left =
-        ap (λ (t : Taking). paragraph_from (take c.end s) t.after ++ paragraphs_from s c.end) (turn_taken (take c.end s) c.at d n (sym entry_is ∙ e));
+        ap (λ (t : Taking). paragraph_from (take c.end s) t.after ++ paragraphs_from s c.end) (turn_taken (take c.end s) c.at e.definition e.next (sym entry_is ∙ q));
     lined = lined;
   }
 
-  pub item_paragraph : {n : ℕ} → x ≡ Nothing → n ≡ paragraph_end (take c.end s) → ItemParagraph s c c.at n (cursor c.end c.end)
+  pub item_paragraph : {n : ℕ} → x ≡ None → n ≡ paragraph_end (take c.end s) → ItemParagraph s c c.at n (cursor c.end c.end)
   unfolding definitions_after paragraphs_after paragraph_from
   item_paragraph {n} e p =
       let z = c.end in
@@ -79,28 +77,17 @@ module _ (s : List ℕ) (c : Cursor) (stands : Standing s c) (lined : LineEnds s
       }
 
 -- ---- between blocks: the next one is found, or none
-module _ (s : List ℕ) (c : Cursor) (stands : Standing s c) (between : c.end ≤ c.at) {b : Block} (is_block : IsBlock s c.end b) where
-  pub no_item : b ≡ block.End → NoItem s c
+module _ (s : List ℕ) (c : Cursor) (stands : Standing s c) (between : c.end ≤ c.at) where
+  pub no_item : blocks_from s c.end ≡ [] → NoItem s c
   unfolding definitions_in paragraphs_in paragraphs_from
-  no_item e =
-      let none : blocks_from s c.end ≡ [] = rw e at is_block in
-      record {
-        definitions = definitions_between s c between ∙ ap (definitions_in s) none;
-        paragraphs = paragraphs_between s c between ∙ ap (paragraphs_in s) none;
-      }
+  no_item none = record {
+    definitions = definitions_between s c between ∙ ap (definitions_in s) none;
+    paragraphs = paragraphs_between s c between ∙ ap (paragraphs_in s) none;
+  }
 
-  module _ {a z : ℕ} (e : b ≡ block.At a z) where
-    abbrev found : FirstBlock s c.end a z
-    found = found_block s c.end is_block e
-
+  module _ {a z : ℕ} (found : FirstBlock s c.end a z) where
     pub found_stands : Standing s (cursor a z)
     found_stands = record { ordered = omega (arith, found.nonempty); inside = found.inside }
-
-    pub found_lined : LineEnds s z
-    found_lined = found.lined
-
-    pub found_before : a < z
-    found_before = found.nonempty
 
     same_definitions : definitions_after s c ≡ definitions_after s (cursor a z)
     same_definitions = definitions_between s c between ∙ found_definitions s c.end found
@@ -109,7 +96,7 @@ module _ (s : List ℕ) (c : Cursor) (stands : Standing s c) (between : c.end �
     same_paragraphs = paragraphs_between s c between ∙ found_paragraphs s c.end found
 
     -- what is met in the block found is met from c on
-    pub found_item : (x : Item) → IsItem s (cursor a z) x → IsItem s c x
+    pub found_item : (x : Item) → IsItem s (cursor a z) (Some x) → IsItem s c (Some x)
     found_item (item.Definition d c') i = record {
       here = record {
         first = same_definitions ∙ i.here.first;
@@ -132,8 +119,4 @@ module _ (s : List ℕ) (c : Cursor) (stands : Standing s c) (between : c.end �
       onward = i.onward;
       rest = λ h. let no : ⊥ = omega arith in absurd no;
       room = λ h l. let q = i.rest found.nonempty in omega (arith, stands.ordered, found.low, found.room (omega arith), q);
-    }
-    found_item item.End i = record {
-      definitions = same_definitions ∙ i.definitions;
-      paragraphs = same_paragraphs ∙ i.paragraphs;
     }

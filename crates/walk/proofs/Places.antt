@@ -1,4 +1,5 @@
 -- The definitions of a note lie within it, each with its parts in order, and make rows of 32-bit numbers.
+use Rattle.std.specs.Prelude.{None, Option, Some}
 use Prim.Native.Nat.{ℕ, zero, suc, ◌+◌, ◌≤◌, ◌<◌, ◌^◌}
 use native.Mathlib.Omega.{arith}
 use mathlib.Core.Path.{◌≡◌, sym, subst}
@@ -11,8 +12,7 @@ use Rattle.block.specs.Block.{Placed}
 use Rattle.block.proofs.Places as block
 use Rattle.row.specs.declared.Definition.{Definition}
 use Rattle.row.specs.Row.{Small}
-use Rattle.definition.specs.Reading.{definition_at, taking_from, definitions_from, definitions_of, definitions_in, definitions}
-use Rattle.definition.specs.declared.Entry.TheVariants.{Defined}
+use Rattle.definition.specs.Reading.{entry, definition_at, taking_from, definitions_from, definitions_of, definitions_in, definitions}
 use Rattle.definition.proofs.Places.{DefinitionPlaces, definition_places}
 use Rattle.definition.proofs.NotePlaces.{definitions_inside}
 use Rattle.definition.proofs.Takings.{by_entry, from_none, from_one}
@@ -25,7 +25,7 @@ pub record Lies (s : List ℕ) (d : Definition) : Type 0 where
 
 module _ (s : List ℕ) where
   -- what lies within a part of s from its start lies within s
-  lies : (e at : ℕ) (d : Definition) (n : ℕ) → e ≤ length s → definition_at (take e s) at ≡ Defined d n → Lies s d
+  lies : (e at : ℕ) (d : Definition) (n : ℕ) → e ≤ length s → definition_at (take e s) at ≡ Some (entry d n) → Lies s d
   lies e at d n h q =
       let p = definition_places (take e s) at d n q in
       record {

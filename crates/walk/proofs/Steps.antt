@@ -1,4 +1,5 @@
 -- What a step over blocks, definitions or paragraphs meets: a blank line, a block, a definition, what a block leaves.
+use Rattle.std.specs.Prelude.{None, Option, Some}
 use Prim.Native.Nat.{ℕ, ◌+◌, ◌-◌, ◌≤◌, ◌<◌}
 use native.Mathlib.Omega.{arith}
 use mathlib.Core.Path.{◌≡◌, sym, ap, ◌∙◌}
@@ -15,15 +16,12 @@ use Rattle.block.specs.Reading.{blank_line, line_length, block_length, part_leng
 use Rattle.block.proofs.Places as places
 use Rattle.row.specs.declared.Definition.{Definition}
 use Rattle.definition.specs.declared.Entry.{Entry}
-use Rattle.definition.specs.declared.Entry.TheVariants.{Defined, Nothing}
-use Rattle.definition.specs.Reading.{definition_at, Taking, definitions_from, paragraph_end, paragraph_from, up_to_end, definitions_of, paragraph_of, definitions_in, paragraphs_in}
+use Rattle.definition.specs.Reading.{entry, definition_at, Taking, definitions_from, paragraph_end, paragraph_from, up_to_end, definitions_of, paragraph_of, definitions_in, paragraphs_in}
 use Rattle.definition.proofs.Places.{definition_places, definition_onward}
 use Rattle.definition.proofs.Takings.{turn_over, turn_taken, taking_takes}
-use Rattle.walk.specs.declared.Block.{Block}
-use Rattle.walk.specs.declared.Block.TheVariants as block
 use Rattle.walk.specs.declared.Cursor.{Cursor}
 use Rattle.walk.specs.Reading.{placed_between, blocks_from, paragraphs_from, definitions_after, paragraphs_after}
-use Rattle.walk.specs.Promise.{FirstBlock, IsBlock, FirstDefinition, FirstParagraph}
+use Rattle.walk.specs.Promise.{FirstBlock, FirstDefinition, FirstParagraph}
 use Rattle.walk.proofs.Ends.{block_lined, block_room}
 
 -- ---- blocks: what is left from place i on are all of them from place `at` on
@@ -53,26 +51,6 @@ module _ (s : List ℕ) (at i : ℕ) (inv : blocks_from s i ≡ blocks_from s at
 pub line_less : (s : List ℕ) (i : ℕ) {n : ℕ} → i < length s → n ≡ i + line_length (drop i s) → length s - n < length s - i
 line_less s i h e = omega (arith, places.line_advances s i h)
 
--- the places of a block that was found
-module _ (s : List ℕ) (i : ℕ) {b : Block} (is_block : IsBlock s i b) {a z : ℕ} (e : b ≡ block.At a z) where
-  pub found_block : FirstBlock s i a z
-  found_block = rw e at is_block
-
-  pub block_inside : z ≤ length s
-  block_inside = found_block.inside
-
-  pub block_starts : {at k : ℕ} → k ≤ at → at ≤ i → k ≤ a
-  block_starts h l = omega (arith, found_block.low)
-
-  pub block_ends : {k : ℕ} → k ≤ i → k ≤ z
-  block_ends h = let f = found_block in omega (arith, f.low, f.nonempty)
-
-  pub block_ordered : a ≤ z
-  block_ordered = omega (arith, found_block.nonempty)
-
-  pub block_less : length s - z < length s - i
-  block_less = let f = found_block in omega (arith, f.low, f.nonempty, f.inside)
-
 -- ---- a block from place a up to place e
 module _ (s : List ℕ) (a e : ℕ) (ordered : a ≤ e) (inside : e ≤ length s) where
   ends_there : up_to_end s (placed_between s a e) ≡ take e s
@@ -98,15 +76,15 @@ module _ (s : List ℕ) (a e : ℕ) (ordered : a ≤ e) (inside : e ≤ length s
       ∙ take-take (n - a) (e - a) (drop a s) (omega arith)
 
 -- ---- definitions of a text that ends with the block
-module _ (s : List ℕ) (i : ℕ) {x : Entry} (entry_is : x ≡ definition_at s i) where
-  pub rest_less : {d : Definition} {n : ℕ} → x ≡ Defined d n → length s - n < length s - i
-  rest_less {d} {n} e = let (on, fits) = definition_onward s i d n (sym entry_is ∙ e) in omega arith
+module _ (s : List ℕ) (i : ℕ) {x : Option Entry} (entry_is : x ≡ definition_at s i) where
+  pub rest_less : {e : Entry} → x ≡ Some e → length s - e.next < length s - i
+  rest_less {e} q = let (on, fits) = definition_onward s i e.definition e.next (sym entry_is ∙ q) in omega arith
 
-  pub rest_stop : {r : ℕ} → (definitions_from s i).after ≡ r → x ≡ Nothing → i ≡ r
+  pub rest_stop : {r : ℕ} → (definitions_from s i).after ≡ r → x ≡ None → i ≡ r
   rest_stop inv e = sym (ap (λ (t : Taking). t.after) (turn_over s i (sym entry_is ∙ e))) ∙ inv
 
-  pub rest_on : {r : ℕ} {d : Definition} {n : ℕ} → (definitions_from s i).after ≡ r → x ≡ Defined d n → (definitions_from s n).after ≡ r
-  rest_on {d} {n} inv e = sym (ap (λ (t : Taking). t.after) (turn_taken s i d n (sym entry_is ∙ e))) ∙ inv
+  pub rest_on : {r : ℕ} {e : Entry} → (definitions_from s i).after ≡ r → x ≡ Some e → (definitions_from s e.next).after ≡ r
+  rest_on {e = e} inv q = sym (ap (λ (t : Taking). t.after) (turn_taken s i e.definition e.next (sym entry_is ∙ q))) ∙ inv
 
 -- ---- what is left where a block was found: what is left at its start
 abbrev pub cursor : ℕ → ℕ → Cursor
@@ -126,12 +104,12 @@ module _ (s : List ℕ) (i : ℕ) {a z : ℕ} (f : FirstBlock s i a z) where
       ∙ ap (λ (l : List Placed). l ++ paragraphs_in s (blocks_from s z)) (its_paragraph s a z (omega (arith, f.nonempty)) f.inside)
 
 -- ---- definitions: what is left at place `at` of the block that ends at `end` is what c has before it
-module _ (s : List ℕ) (c : Cursor) (at end : ℕ) (inv : definitions_after s (cursor at end) ≡ definitions_after s c) {x : Entry} (entry_is : x ≡ definition_at (take end s) at) where
-  pub definition_here : {d : Definition} {n : ℕ} → c.at ≤ at → end ≤ length s → x ≡ Defined d n → FirstDefinition s c d (cursor n end)
+module _ (s : List ℕ) (c : Cursor) (at end : ℕ) (inv : definitions_after s (cursor at end) ≡ definitions_after s c) {x : Option Entry} (entry_is : x ≡ definition_at (take end s) at) where
+  pub definition_here : {e : Entry} → c.at ≤ at → end ≤ length s → x ≡ Some e → FirstDefinition s c e.definition (cursor e.next end)
   unfolding definitions_after
-  definition_here {d} {n} low h e =
-      let q = turn_taken (take end s) at d n (sym entry_is ∙ e) in
-      let p = definition_places (take end s) at d n (sym entry_is ∙ e) in
+  definition_here {e} low h f =
+      let q = turn_taken (take end s) at e.definition e.next (sym entry_is ∙ f) in
+      let p = definition_places (take end s) at e.definition e.next (sym entry_is ∙ f) in
       record {
         first = sym inv ∙ ap (λ (t : Taking). t.definitions ++ definitions_in s (blocks_from s end)) q;
         within = record { ordered = omega (arith, length-take-le end s h, p.inside); inside = h };
@@ -139,33 +117,33 @@ module _ (s : List ℕ) (c : Cursor) (at end : ℕ) (inv : definitions_after s (
         onward = omega (arith, p.label, p.apart, p.destination, p.ends);
       }
 
-  module _ (none : x ≡ Nothing) where
+  module _ (none : x ≡ None) where
     -- no more of this block
     block_over : definitions_in s (blocks_from s end) ≡ definitions_after s c
     unfolding definitions_after
     block_over = sym (ap (λ (t : Taking). t.definitions ++ definitions_in s (blocks_from s end)) (turn_over (take end s) at (sym entry_is ∙ none))) ∙ inv
 
-    pub no_definition : {b : Block} → IsBlock s end b → b ≡ block.End → definitions_after s c ≡ []
+    pub no_definition : blocks_from s end ≡ [] → definitions_after s c ≡ []
     unfolding definitions_in
-    no_definition q e = let l : blocks_from s end ≡ [] = rw e at q in sym (rw l at block_over)
+    no_definition l = sym (rw l at block_over)
 
-    pub next_block : {b : Block} {a z : ℕ} → IsBlock s end b → b ≡ block.At a z → definitions_after s (cursor a z) ≡ definitions_after s c
-    next_block q e = sym (found_definitions s end (found_block s end q e)) ∙ block_over
+    pub next_block : {a z : ℕ} → FirstBlock s end a z → definitions_after s (cursor a z) ≡ definitions_after s c
+    next_block f = sym (found_definitions s end f) ∙ block_over
 
 -- ---- paragraphs: what is left from place i on are all of them from place `at` on
 pub end_within : (s : List ℕ) → (paragraph_end s ≤ length s) × (length s ≤ paragraph_end s + 1)
 unfolding paragraph_end
 end_within s = by (eqb (get_or s (length s - 1) 0) 10) (λ e. rw e (omega arith, omega arith)) (λ e. rw e (omega arith, omega arith))
 
-module _ (s : List ℕ) (at i : ℕ) (inv : paragraphs_from s i ≡ paragraphs_from s at) {b : Block} (is_block : IsBlock s i b) where
-  pub no_paragraph : b ≡ block.End → paragraphs_from s at ≡ []
+module _ (s : List ℕ) (at i : ℕ) (inv : paragraphs_from s i ≡ paragraphs_from s at) where
+  pub no_paragraph : blocks_from s i ≡ [] → paragraphs_from s at ≡ []
   unfolding paragraphs_from paragraphs_in
-  no_paragraph e = let l : blocks_from s i ≡ [] = rw e at is_block in sym inv ∙ ap (paragraphs_in s) l
+  no_paragraph l = sym inv ∙ ap (paragraphs_in s) l
 
-  module _ {a z : ℕ} (e : b ≡ block.At a z) {r : ℕ} (rest : r ≡ (definitions_from (take z s) a).after) where
+  module _ {a z : ℕ} (f : FirstBlock s i a z) {r : ℕ} (rest : r ≡ (definitions_from (take z s) a).after) where
     this_and_others : paragraphs_from s at ≡ paragraph_from (take z s) r ++ paragraphs_from s z
     unfolding paragraphs_after
-    this_and_others = sym inv ∙ found_paragraphs s i (found_block s i is_block e) ∙ ap (λ (n : ℕ). paragraph_from (take z s) n ++ paragraphs_from s z) (sym rest)
+    this_and_others = sym inv ∙ found_paragraphs s i f ∙ ap (λ (n : ℕ). paragraph_from (take z s) n ++ paragraphs_from s z) (sym rest)
 
     pub all_taken : z ≤ r → paragraphs_from s z ≡ paragraphs_from s at
     unfolding paragraph_from
@@ -174,7 +152,6 @@ module _ (s : List ℕ) (at i : ℕ) (inv : paragraphs_from s i ≡ paragraphs_f
     pub paragraph_here : {n : ℕ} → at ≤ i → r < z → n ≡ paragraph_end (take z s) → FirstParagraph s at r n z
     unfolding paragraph_from
     paragraph_here {n} low h p =
-        let f = found_block s i is_block e in
         let size : length (take z s) ≡ z = length-take-le z s f.inside in
         let w = end_within (take z s) in
         let t = taking_takes (take z s) a (omega (arith, f.nonempty)) in

@@ -1,15 +1,12 @@
 -- What each step over a note's blocks, definitions and paragraphs answers.
-use Rattle.std.specs.Prelude.{ℕ, ◌+◌, ◌-◌, ◌*◌, ◌≤◌, ◌<◌, ◌≡◌, List, [], ◌∷◌, length, get_or}
+use Rattle.std.specs.Prelude.{ℕ, ◌+◌, ◌-◌, ◌*◌, ◌≤◌, ◌<◌, ◌≡◌, List, [], ◌∷◌, length, get_or, None, Option, Some}
 use Rattle.row.specs.declared.Definition.{Definition}
 use Rattle.walk.specs.declared.Block.{Block}
-use Rattle.walk.specs.declared.Block.TheVariants as block
 use Rattle.walk.specs.declared.Cursor.{Cursor}
 use Rattle.walk.specs.declared.Item.{Item}
 use Rattle.walk.specs.declared.Item.TheVariants as item
 use Rattle.walk.specs.declared.Next.{Next}
-use Rattle.walk.specs.declared.Next.TheVariants as next
 use Rattle.walk.specs.declared.Paragraph.{Paragraph}
-use Rattle.walk.specs.declared.Paragraph.TheVariants as paragraph
 use Rattle.walk.specs.Reading.{placed_between, blocks_from, paragraphs_from, definitions_after, paragraphs_after, start_of, end_of, next_of, from}
 
 -- a line ends before place e, or s starts or ends there
@@ -25,9 +22,9 @@ pub record FirstBlock (s : List ℕ) (i a e : ℕ) : Type 0 where
   pub lined : LineEnds s e
   pub room : e < length s → a + 2 ≤ e
 
-abbrev pub IsBlock : List ℕ → ℕ → Block → Type 0
-IsBlock s i (block.At a e) = FirstBlock s i a e
-IsBlock s i block.End = blocks_from s i ≡ []
+abbrev pub IsBlock : List ℕ → ℕ → Option Block → Type 0
+IsBlock s i (Some b) = FirstBlock s i b.start b.end
+IsBlock s i None = blocks_from s i ≡ []
 
 -- reading can stand at c: its places are in order and within s
 pub record Standing (s : List ℕ) (c : Cursor) : Type 0 where
@@ -41,9 +38,9 @@ pub record FirstDefinition (s : List ℕ) (c : Cursor) (d : Definition) (c' : Cu
   pub starts : c.at < d.label.start
   pub onward : d.label.start < c'.at
 
-abbrev pub IsNext : List ℕ → Cursor → Next → Type 0
-IsNext s c (next.Definition d c') = FirstDefinition s c d c'
-IsNext s c next.End = definitions_after s c ≡ []
+abbrev pub IsNext : List ℕ → Cursor → Option Next → Type 0
+IsNext s c (Some n) = FirstDefinition s c n.definition n.after
+IsNext s c None = definitions_after s c ≡ []
 
 -- the first paragraph from place i on runs from a to e, and its block to n
 pub record FirstParagraph (s : List ℕ) (i a e n : ℕ) : Type 0 where
@@ -54,9 +51,9 @@ pub record FirstParagraph (s : List ℕ) (i a e n : ℕ) : Type 0 where
   pub inside : n ≤ length s
   pub onward : i < n
 
-abbrev pub IsParagraph : List ℕ → ℕ → Paragraph → Type 0
-IsParagraph s i (paragraph.At a e n) = FirstParagraph s i a e n
-IsParagraph s i paragraph.End = paragraphs_from s i ≡ []
+abbrev pub IsParagraph : List ℕ → ℕ → Option Paragraph → Type 0
+IsParagraph s i (Some p) = FirstParagraph s i p.start p.end p.next
+IsParagraph s i None = paragraphs_from s i ≡ []
 
 -- ---- definitions and paragraphs in one pass
 -- d is the first definition that c has before it, the paragraphs are left, and c' stands after d
@@ -84,10 +81,10 @@ pub record NoItem (s : List ℕ) (c : Cursor) : Type 0 where
   pub definitions : definitions_after s c ≡ []
   pub paragraphs : paragraphs_after s c ≡ []
 
-abbrev pub IsItem : List ℕ → Cursor → Item → Type 0
-IsItem s c (item.Definition d c') = ItemDefinition s c d c'
-IsItem s c (item.Paragraph a e c') = ItemParagraph s c a e c'
-IsItem s c item.End = NoItem s c
+abbrev pub IsItem : List ℕ → Cursor → Option Item → Type 0
+IsItem s c (Some (item.Definition d c')) = ItemDefinition s c d c'
+IsItem s c (Some (item.Paragraph a e c')) = ItemParagraph s c a e c'
+IsItem s c None = NoItem s c
 
 -- ---- a list of paragraphs
 -- the list has the paragraphs of s, n of them, and there are no more
@@ -97,6 +94,6 @@ pub record Remembers (s list : List ℕ) (n : ℕ) : Type 0 where
   pub fits : 2 * n ≤ length list
 
 -- after paragraph k of n, paragraph k + 1 is looked for from its block's end on
-abbrev pub Onward : List ℕ → List ℕ → ℕ → ℕ → Paragraph → Type 0
-Onward s list n k (paragraph.At a e m) = (k < n) × (m ≡ from s list (k + 1))
-Onward s list n k paragraph.End = k ≡ n
+abbrev pub Onward : List ℕ → List ℕ → ℕ → ℕ → Option Paragraph → Type 0
+Onward s list n k (Some p) = (k < n) × (p.next ≡ from s list (k + 1))
+Onward s list n k None = k ≡ n

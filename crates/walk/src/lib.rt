@@ -1,22 +1,21 @@
 // A note's definitions one after the other, and its paragraphs one after the other.
 #![tactic(auto)]
 
-ghost use Rattle.std.specs.Prelude.{◌≡◌, ◌+◌, ◌*◌, ◌≤◌, ◌<◌, ◌^◌, set};
+ghost use Rattle.std.specs.Prelude.{◌≡◌, ◌+◌, ◌*◌, ◌≤◌, ◌<◌, ◌^◌, set, Some};
 ghost use Rattle.definition.specs.Reading.{definitions_from};
 ghost use Rattle.walk.specs.Reading.{from, remembered};
 ghost use Rattle.walk.specs.Promise.{IsBlock, Standing, LineEnds, IsNext, IsParagraph, IsItem, Remembers, Onward};
 
-use definition::Entry;
 use row::Definition;
 
 // The numbers of the list of a note's paragraphs: a start and an end for each. Each takes two bytes of the note at the least, but for the last.
 pub const LIST: usize = text::NOTE_LIMIT + 1;
 
-// The start of a block and its end, or none.
+// The start of a block and its end.
 #[derive(Clone, Copy)]
-enum Block {
-    At(usize, usize),
-    End,
+struct Block {
+    start: usize,
+    end: usize,
 }
 
 // Reading stands at place `at` of the block that ends at place `end`; between blocks the two are equal.
@@ -26,89 +25,108 @@ pub struct Cursor {
     pub end: usize,
 }
 
-// A definition and where reading stands after it, or none.
+// A definition and where reading stands after it.
 #[derive(Clone, Copy)]
-pub enum Next {
-    Definition(Definition, Cursor),
-    End,
+pub struct Next {
+    pub definition: Definition,
+    pub after: Cursor,
 }
 
-// The start of a paragraph, its end, and the end of its block; or none.
+// The start of a paragraph, its end, and the end of its block.
 #[derive(Clone, Copy)]
-pub enum Paragraph {
-    At(usize, usize, usize),
-    End,
+pub struct Paragraph {
+    pub start: usize,
+    pub end: usize,
+    pub next: usize,
 }
 
-// A definition, or a paragraph's start and end, with where reading stands after it; or none.
+// A definition, or a paragraph's start and end, with where reading stands after it.
 #[derive(Clone, Copy)]
 pub enum Item {
     Definition(Definition, Cursor),
     Paragraph(usize, usize, Cursor),
-    End,
+}
+
+// The list of the paragraphs of a note: a start and an end for each of them, `count` in all.
+#[derive(Clone, Copy)]
+pub struct Paragraphs<'a> {
+    pub note: &'a [u8],
+    pub list: &'a [u16],
+    pub count: usize,
+    ghost remembers: { Remembers note.now list.now count },
 }
 
 // The first block from `at` on, where a line starts.
-fn next_block(note: &[u8], at: usize) -> Block
+#[tactic(auto, using(crate::proofs::Steps::no_block, crate::proofs::Steps::past_blank, crate::proofs::Steps::line_less))]
+fn next_block(note: &[u8], at: usize) -> Option<Block>
     ensures { IsBlock note.now at result }
 {
     let mut i = at;
     while i < note.len() {
         if !block::blank_line(note, i) {
-            return Block::At(i, block::block_end(note, i));
+            return Some(Block {
+                start: i,
+                end: block::block_end(note, i),
+            });
         }
         i = block::line_end(note, i);
     }
-    Block::End
+    None
 }
 
 // The first definition from `c` on.
-pub fn next_definition(note: &[u8], c: Cursor) -> Next
+#[tactic(auto, using(crate::proofs::Steps::definition_here, crate::proofs::Steps::no_definition, crate::proofs::Steps::next_block))]
+pub fn next_definition(note: &[u8], c: Cursor) -> Option<Next>
     requires { Standing note.now c }
     ensures { IsNext note.now c result }
 {
-    let mut at = c.at;
-    let mut end = c.end;
+    let Cursor { mut at, mut end } = c;
     loop {
-        if let Entry::Defined(d, next) = definition::definition(&note[..end], at) {
-            return Next::Definition(d, Cursor { at: next, end });
+        if let Some(entry) = definition::definition(&note[..end], at) {
+            return Some(Next {
+                definition: entry.definition,
+                after: Cursor {
+                    at: entry.next,
+                    end,
+                },
+            });
         }
-        let Block::At(from, to) = next_block(note, end) else {
-            return Next::End;
-        };
-        at = from;
-        end = to;
+        let block = next_block(note, end)?;
+        at = block.start;
+        end = block.end;
     }
 }
 
 // Past the definitions that a block starts with at `at`, where `s` ends with the block.
+#[tactic(auto, using(crate::proofs::Steps::rest_less, crate::proofs::Steps::rest_stop, crate::proofs::Steps::rest_on))]
 fn block_rest(s: &[u8], at: usize) -> usize
     ensures { result ≡ (definitions_from s.now at).after }
 {
     let mut i = at;
-    loop {
-        let Entry::Defined(_, next) = definition::definition(s, i) else {
-            return i;
-        };
-        i = next;
+    while let Some(entry) = definition::definition(s, i) {
+        i = entry.next;
     }
+    i
 }
 
 // The first paragraph from `at` on, where a line starts.
-pub fn next_paragraph(note: &[u8], at: usize) -> Paragraph
+#[tactic(auto, using(crate::proofs::Steps::no_paragraph, crate::proofs::Steps::all_taken, crate::proofs::Steps::paragraph_here))]
+pub fn next_paragraph(note: &[u8], at: usize) -> Option<Paragraph>
     ensures { IsParagraph note.now at result }
 {
     let mut i = at;
     loop {
-        let Block::At(from, to) = next_block(note, i) else {
-            return Paragraph::End;
-        };
-        let block = &note[..to];
-        let start = block_rest(block, from);
-        if start < to {
-            return Paragraph::At(start, definition::paragraph_end(block), to);
+        let block = next_block(note, i)?;
+        let s = &note[..block.end];
+        let start = block_rest(s, block.start);
+        if start < block.end {
+            return Some(Paragraph {
+                start,
+                end: definition::paragraph_end(s),
+                next: block.end,
+            });
         }
-        i = to;
+        i = block.end;
     }
 }
 
@@ -117,12 +135,18 @@ fn item_here(note: &[u8], c: Cursor) -> Item
     requires standing { Standing note.now c }
     requires line_ends { LineEnds note.now c.end }
     requires at_lt_end { c.at < c.end }
-    ensures { IsItem note.now c result }
+    ensures { IsItem note.now c (Some result) }
 {
     let end = c.end;
     let block = &note[..end];
-    if let Entry::Defined(d, next) = definition::definition(block, c.at) {
-        return Item::Definition(d, Cursor { at: next, end });
+    if let Some(entry) = definition::definition(block, c.at) {
+        return Item::Definition(
+            entry.definition,
+            Cursor {
+                at: entry.next,
+                end,
+            },
+        );
     }
     Item::Paragraph(
         c.at,
@@ -132,18 +156,21 @@ fn item_here(note: &[u8], c: Cursor) -> Item
 }
 
 // The first definition or paragraph from `c` on.
-pub fn next_item(note: &[u8], c: Cursor) -> Item
+#[tactic(auto, using(crate::proofs::Items::no_item, crate::proofs::Items::found_stands, crate::proofs::Items::found_item))]
+pub fn next_item(note: &[u8], c: Cursor) -> Option<Item>
     requires standing { Standing note.now c }
     requires line_ends { LineEnds note.now c.end }
     ensures { IsItem note.now c result }
 {
     if c.at < c.end {
-        return item_here(note, c);
+        return Some(item_here(note, c));
     }
-    let Block::At(from, to) = next_block(note, c.end) else {
-        return Item::End;
+    let block = next_block(note, c.end)?;
+    let start = Cursor {
+        at: block.start,
+        end: block.end,
     };
-    item_here(note, Cursor { at: from, end: to })
+    Some(item_here(note, start))
 }
 
 // Stores a number of the list at `i`, if there is room.
@@ -167,21 +194,21 @@ pub fn remember(list: &mut [u16], k: usize, start: usize, end: usize)
     put(list, 2 * k + 1, end);
 }
 
-// The paragraph from `at` on, by the list: paragraph `k` of `n`.
-pub fn next_listed(note: &[u8], list: &[u16], n: usize, k: usize, at: usize) -> Paragraph
-    requires remembers { Remembers note.now list.now n }
-    requires k_le_n { k ≤ n }
-    requires at_value { at ≡ from note.now list.now k }
-    ensures read { IsParagraph note.now at result }
-    ensures onward { Onward note.now list.now n k result }
-{
-    if k == n {
-        return Paragraph::End;
+impl<'a> Paragraphs<'a> {
+    // The paragraph from `at` on, which is paragraph `k`.
+    #[tactic(auto, using(crate::proofs::Listing::listed_end, crate::proofs::Listing::listed_on, crate::proofs::Listing::listed_last))]
+    pub fn next(&self, k: usize, at: usize) -> Option<Paragraph>
+        requires k_bound { k ≤ self.now.count }
+        requires at_value { at ≡ from self.now.note.now self.now.list.now k }
+        ensures read { IsParagraph self.now.note.now at result }
+        ensures onward { Onward self.now.note.now self.now.list.now self.now.count k result }
+    {
+        if k == self.count {
+            return None;
+        }
+        let start = self.list[2 * k] as usize;
+        let end = self.list[2 * k + 1] as usize;
+        let next = if end < self.note.len() { end + 1 } else { end };
+        Some(Paragraph { start, end, next })
     }
-    let start = list[2 * k] as usize;
-    let end = list[2 * k + 1] as usize;
-    if end < note.len() {
-        return Paragraph::At(start, end, end + 1);
-    }
-    Paragraph::At(start, end, end)
 }

@@ -29,10 +29,11 @@ use Rattle.cursor.proofs.Rows.{row_read, place_top}
 use Rattle.cursor.proofs.Cursors.{Next}
 use Rattle.cursor.proofs.Found.{row_of_note, next_found, closing_from, closing_row, no_closing}
 use Rattle.cursor.proofs.Entries.{free_there, starting, tags_there}
+use Rattle.buffer.specs.declared.Page.{Page}
 use Rattle.writer.specs.declared.Pass.{Pass}
 use Rattle.writer.specs.Pass.{StartsHere, ClosesHere, Plain, Passes, Stands, Goes}
 
-module _ {T : Texts} {u st : List ℕ} {count : ℕ} (d : Spanned T u count) (s : Started (span_rows T) st) {e : ℕ} {p : Pass} (q : Stands T e p) where
+module _ {T : Texts} {u st : List ℕ} {count : ℕ} (d : Spanned T u count) (s : Started (span_rows T) st) {e : ℕ} {p : Pass} {page : Page} (q : Stands T e p page) where
   abbrev rows : List (List ℕ)
   rows = span_rows T
 
@@ -74,19 +75,16 @@ module _ {T : Texts} {u st : List ℕ} {count : ℕ} (d : Spanned T u count) (s 
         let row = row_of_note T u (index_in entry) x r.is_row (row_read u d.room h g) in
         subst (λ (y : List ℕ). StartsHere T e y tags p.at) (sym row) (subst (λ (b : Bool). StartsHere T e (row_at u (index_in entry)) b p.at) (sym t) r)
 
-  pub start_goes : {page page' : List ℕ} {r : Pass} → Passes T e p page r page' → Goes T e p page r page'
-  start_goes x = record { written = x.written; onward = x.onward; cursor = rw x.same_close q.cursor }
+  pub start_goes : {page' : Page} {r : ℕ} → Passes T e p.at page r page' → Goes T e p page (record { at = r; close = p.close }) page'
+  start_goes x = record { written = x.written; onward = x.onward; cursor = q.cursor }
 
   -- ---- no row starts there, and the search gave row k
   module _ (z : entry ≡ 0) {k : ℕ} (f : Finds u count p.at p.close k) where
     next : Next rows k p.at
     next = next_found d q.cursor f
 
-    abbrev moved : Pass
-    moved = record { at = p.at; close = k; size = p.size }
-
-    pub goes : {page page' : List ℕ} {r : Pass} → Passes T e moved page r page' → Goes T e p page r page'
-    goes x = record { written = x.written; onward = x.onward; cursor = rw x.same_close next.before }
+    pub goes : {page' : Page} {r : ℕ} → Passes T e p.at page r page' → Goes T e p page (record { at = r; close = k }) page'
+    goes x = record { written = x.written; onward = x.onward; cursor = next.before }
 
     -- c is where the text of that row ends, or the paragraph
     module _ {c : ℕ} (is : c ≡ closing_place u count k e) where

@@ -12,15 +12,16 @@ use Rattle.walk.specs.Reading.{placed_between}
 use Rattle.walk.proofs.Steps.{cut}
 use Rattle.note.specs.Reading.{span_rows}
 use Rattle.html.specs.Tags.{paragraph_open, paragraph_close}
-use Rattle.buffer.specs.Stored.{page_most, Writes, Leads}
+use Rattle.buffer.specs.declared.Page.{Page}
+use Rattle.buffer.specs.Stored.{page_most, HasRoom, Grows, Leads}
 use Rattle.buffer.proofs.Writing.{leads, done, both}
 use Rattle.page.specs.Reading.{content_from, paragraph_page}
 use Rattle.writer.specs.declared.Pass.{Pass}
 use Rattle.writer.specs.Pass.{left, Cursor, Stands, Goes, Starts, Ends}
 use Rattle.cursor.proofs.Cursors.{still_behind}
 
-leads_on : {page₀ whole page page' rest rest' : List ℕ} {n k k' : ℕ} → Leads page₀ n whole page k rest → Leads page k rest page' k' rest' → Leads page₀ n whole page' k' rest'
-leads_on a b = record { size = b.size ∙ a.size; stored = b.stored ∙ a.stored; same = b.same ∙ a.same }
+leads_on : {p₀ p q : Page} {whole rest rest' : List ℕ} → Leads p₀ whole p rest → Leads p rest q rest' → Leads p₀ whole q rest'
+leads_on a b = record { same_bytes = b.same_bytes ∙ a.same_bytes; size = b.size ∙ a.size; stored = b.stored ∙ a.stored }
 
 module _ (T : Texts) (e : ℕ) (w : e ≤ length T.note) where
   abbrev s : List ℕ
@@ -41,20 +42,16 @@ module _ (T : Texts) (e : ℕ) (w : e ≤ length T.note) where
   paragraph_is a h = ap (λ (l : List ℕ). paragraph_open ++ l ++ paragraph_close) (left_whole a h)
 
 -- the loop started at w₀ and stands at w
-pub record Going (T : Texts) (e : ℕ) (w₀ : Pass) (page₀ page : List ℕ) (w : Pass) : Type 0 where
-  pub written : Leads page₀ w₀.size (left T e w₀.at) page w.size (left T e w.at)
+pub record Going (T : Texts) (e : ℕ) (w₀ : Pass) (page₀ page : Page) (w : Pass) : Type 0 where
+  pub written : Leads page₀ (left T e w₀.at) page (left T e w.at)
   pub here : Cursor T w w.at
   pub there : Cursor T w e
 
--- p, where n bytes are written
-abbrev at_size : Pass → ℕ → Pass
-at_size p n = record { at = p.at; close = p.close; size = n }
-
-module _ {T : Texts} {e : ℕ} {p : Pass} (q : Starts T e p) where
+module _ {T : Texts} {e : ℕ} {p : Pass} {page : Page} (q : Starts T e p page) where
   abbrev whole : List ℕ
   whole = left T e p.at
 
-  parts : p.size + (length paragraph_open + length whole + length paragraph_close) ≤ page_most
+  parts : page.size + (length paragraph_open + length whole + length paragraph_close) ≤ page_most
   parts =
       omega (
         arith,
@@ -64,18 +61,18 @@ module _ {T : Texts} {e : ℕ} {p : Pass} (q : Starts T e p) where
         length-append (paragraph_open ++ whole) paragraph_close,
       )
 
-  pub open_room : p.size + length paragraph_open ≤ page_most
+  pub open_room : HasRoom page paragraph_open
   open_room = omega (arith, parts)
 
-  module _ {page page₀ : List ℕ} {n : ℕ} (x : Writes page p.size paragraph_open page₀ n) where
-    pub opened : Going T e (at_size p n) page₀ page₀ (at_size p n)
+  module _ {page₀ : Page} (x : Grows page paragraph_open page₀) where
+    pub opened : Going T e p page₀ page₀ p
     opened = record { written = leads; here = q.cursor; there = still_behind q.cursor q.ordered }
 
-    module _ {mid : List ℕ} {w : Pass} (g : Going T e (at_size p n) page₀ mid w) where
-      pub stands : w.at < e → Stands T e w
-      stands h = record { inside = h; within = q.within; cursor = g.here; room = omega (arith, g.written.size, x.size, parts) }
+    module _ {mid : Page} {w : Pass} (g : Going T e p page₀ mid w) where
+      pub stands : w.at < e → Stands T e w mid
+      stands h = record { inside = h; within = q.within; cursor = g.here; room = omega (arith, g.written.size, x.written.size, parts) }
 
-      pub goes_on : {mid' : List ℕ} {r : Pass} → w.at < e → Goes T e w mid r mid' → Going T e (at_size p n) page₀ mid' r
+      pub goes_on : {mid' : Page} {r : Pass} → w.at < e → Goes T e w mid r mid' → Going T e p page₀ mid' r
       goes_on h y = record {
         written = leads_on g.written y.written;
         here = still_behind y.cursor (omega (arith, y.onward));
@@ -86,10 +83,10 @@ module _ {T : Texts} {e : ℕ} {p : Pass} (q : Starts T e p) where
         none_left : left T e w.at ≡ []
         none_left = left_none T e q.within w.at h
 
-        pub close_room : w.size + length paragraph_close ≤ page_most
-        close_room = omega (arith, g.written.size, ap length none_left, x.size, parts)
+        pub close_room : HasRoom mid paragraph_close
+        close_room = omega (arith, g.written.size, ap length none_left, x.written.size, parts)
 
-        pub closed : {after : List ℕ} {m : ℕ} → Writes mid w.size paragraph_close after m → Ends T e p page (at_size w m) after
+        pub closed : {after : Page} → Grows mid paragraph_close after → Ends T e p page w after
         closed y = record {
           written = rw (paragraph_is T e q.within p.at q.ordered) (both (both x (done g.written none_left)) y);
           cursor = g.there;

@@ -1,11 +1,8 @@
+-- The state is the number so far.
 use mathlib.Core.Path.{◌≡◌}
-use Prim.Native.Nat.{◌-◌}
-use lib.ListN.{length, drop}
+use lib.ListN.{drop}
 use Rattle.container.specs.Container.{number_from}
 use Rattle.container.proofs.read_number.Given as goal
 
-abbrev pub invariant-loop-i : goal.invariant-loop-i
-invariant-loop-i l = number_from (drop l.i l.text) l.n ≡ number_from l.text 0
-
-abbrev pub decreases-loop-i : goal.decreases-loop-i
-decreases-loop-i l = length l.text - l.i
+abbrev pub invariant-loop-b : goal.invariant-loop-b
+invariant-loop-b l = number_from (drop l.b-index l.text) l.n ≡ number_from l.text 0

@@ -1,4 +1,4 @@
-use Prim.Native.Nat.{◌-◌, ◌≤◌}
+use Prim.Native.Nat.{◌≤◌}
 use Rattle.cursor.specs.Starts.{rows_from}
 use Rattle.cursor.proofs.Marks.{Marks}
 use Rattle.cursor.proofs.mark_starts.Given as goal

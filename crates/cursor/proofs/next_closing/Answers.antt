@@ -1,5 +1,4 @@
 -- The rows before `k` do not wait.
-use Prim.Native.Nat.{◌-◌}
 use mathlib.Core.Path.{sym, ap, ◌∙◌}
 use Rattle.cursor.specs.Cursor.{waits}
 use Rattle.span.specs.Reading.{line_in}
@@ -26,4 +25,4 @@ loop-k-preserved c =
 pub returns : goal.returns
 returns c =
     let a = c.args in
-    none_there a.spans.now a.count a.at a.start c.loop-k.invariant c.loop-k-test.false
+    none_there a.spans.now a.count a.at a.start c.loop-k.invariant c.loop-k-test.false c.max.ensures

@@ -1,11 +1,12 @@
-use Prim.Native.Nat.{◌-◌, ◌≤◌}
-use lib.ListN.{length, drop}
-use Rattle.escaping.specs.Reading.{text_of}
-use Rattle.buffer.specs.Stored.{Leads}
+use Prim.Native.Nat.{◌-◌}
+use lib.ListN.{length}
+use Rattle.escaping.specs.Escaping.{escaped}
+use Rattle.escaping.specs.Reading.{undone}
+use Rattle.escaping.proofs.Gives.{Gives}
 use Rattle.escaping.proofs.put_text.Given as goal
 
-abbrev pub invariant-loop-n : goal.invariant-loop-n
-invariant-loop-n l = Leads l.initial.page l.n (text_of l.s) l.page l.k (text_of (drop l.i l.s)) × (l.i ≤ length l.s)
+abbrev pub invariant-loop-i : goal.invariant-loop-i
+invariant-loop-i l = Gives escaped undone l.s l.fn.page l.page l.i
 
-abbrev pub decreases-loop-n : goal.decreases-loop-n
-decreases-loop-n l = length l.s - l.i
+abbrev pub decreases-loop-i : goal.decreases-loop-i
+decreases-loop-i l = length l.s - l.i

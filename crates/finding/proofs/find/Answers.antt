@@ -2,8 +2,8 @@
 use mathlib.Core.Path.{sym, ◌∙◌}
 use Rattle.finding.proofs.find.Goals as goal
 
+pub invariant_of-rows : goal.invariant_of-rows
+invariant_of-rows c = record { sorted = (c.requires.ready (sym c.number_at.ensures ∙ c.if-number_at.true)).sorted }
+
 pub lookup-requires : goal.lookup-requires
-lookup-requires c = record {
-  fit = c.requires.fit;
-  holds = c.requires.ready (sym c.number_at.ensures ∙ c.if-number_at.true);
-}
+lookup-requires c = (c.requires.ready (sym c.number_at.ensures ∙ c.if-number_at.true)).covers

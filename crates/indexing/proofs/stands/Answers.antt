@@ -8,4 +8,4 @@ pub returns-then-count-p : goal.returns-then-count-p
 returns-then-count-p c = λ e. absurd (true≢false (sym e))
 
 pub returns : goal.returns
-returns c = stands_at _ _ _ _ c.if-count-p.false c.row_in.ensures
+returns c = stands_at _ _ _ _ c.if-count-p.false c.row.ensures

@@ -1,9 +1,9 @@
 -- What was counted and what is left come to the whole.
 use native.Mathlib.Omega.{arith}
-use mathlib.Core.Path.{sym, ◌∙◌}
+use mathlib.Core.Path.{refl, sym, ◌∙◌}
 use Rattle.inline.specs.Pieces.{backtick}
 use Rattle.inline.specs.ReadingPieces.{quiet}
-use Rattle.most.proofs.Passing.{counting_starts, pass_bracket, pass_run, pass_text, past_on, all_ends, all_held}
+use Rattle.most.proofs.Passing.{one_if, counting_starts, pass_bracket, pass_run, pass_text, past_on, all_ends, all_held}
 use Rattle.most.proofs.most_of.Goals as goal
 
 pub loop-i-init : goal.loop-i-init
@@ -42,5 +42,5 @@ loop-i-preserved c = pass_text _ _ c.loop-i-test.true c.loop-i.invariant (sym c.
 pub returns : goal.returns
 returns c = let h = c.loop-i-test.false in let n = c.loop-i.invariant in record {
   ends_value = all_ends _ _ h n;
-  held_value = all_held _ _ h n c.plus_one_if.ensures;
+  held_value = all_held _ _ h n (rw (c.from.ensures, one_if) refl);
 }

@@ -1,10 +1,6 @@
--- The two ways through are the two answers of the comparison.
-use borrow.Author.Rules.{rules}
-use Rattle.notice_c.proofs.SameLabel.{yes, no}
+-- The number is what the comparison answers.
+use Rattle.notice_c.proofs.SameLabel.{told}
 use Rattle.notice_c.proofs.notice_same_label.Goals as goal
 
-pub returns-then-same_label : goal.returns-then-same_label
-returns-then-same_label c = search (yes, rules)
-
 pub returns : goal.returns
-returns c = search (no, rules)
+returns c = told c.args.a.now c.args.b.now c.same_label.ensures c.from.ensures

@@ -2,14 +2,10 @@
 use Rattle.paragraph.proofs.Stack.{opened_by}
 use Rattle.step.proofs.Step.{line_small}
 use native.Mathlib.Omega.{arith}
-use mathlib.Core.Path.{refl}
 use Rattle.paragraph.proofs.open_bracket.Goals as goal
 
 pub overflow_cast-stack-2 : goal.overflow_cast-stack-2
-overflow_cast-stack-2 c = let a = c.args in let p = c.requires in omega (arith, line_small a.note.now a.start a.spans.now a.w p.lined c.count_lines-v.ensures (omega (arith, p.room.some, p.room.fits)))
+overflow_cast-stack-2 c = let a = c.args in let p = c.requires in omega (arith, line_small a.note.now a.start a.spans.now a.w p.lined c.count_lines-v.ensures (omega (arith, p.room.onward, p.room.fits)))
 
-pub returns : goal.returns
-returns c = let a = c.args in record {
-  value = opened_by a.note.now a.start a.spans.now a.w a.size c.count_lines-v.ensures;
-  stack_after = refl;
-}
+pub returns-clause-value : goal.returns-clause-value
+returns-clause-value c = let a = c.args in opened_by a.note.now a.start a.spans.now a.w a.end c.count_lines-v.ensures

@@ -3,119 +3,117 @@ use Rattle.paragraph.proofs.Turns.{waits_here, open_inside, open_turn, close_tur
 use Rattle.paragraph.proofs.Plain.{plain_after, plain_on}
 use Rattle.paragraph.proofs.Loop.{lined_here, on_start, on_end}
 use Rattle.step.specs.declared.Walk.{Walk}
-use Rattle.ticks.proofs.Passing.{unmade}
+use Rattle.paragraph.specs.declared.Lent.{Lent}
+use Rattle.note.specs.Note.{depth_limit}
 use Rattle.parens.proofs.Parts as parens
+use borrow.Author.Rules.{rules}
 use lib.ListN.{length, length-set}
-use Prim.Native.Nat.{◌-◌}
 use native.Mathlib.Omega.{arith}
-use mathlib.Core.Path.{refl, ap, ◌∙◌}
+use mathlib.Core.Path.{◌≡◌, refl, ap, ◌∙◌}
 use Rattle.paragraph.proofs.read_paragraph.Goals as goal
-use Rattle.paragraph.proofs.read_paragraph.Goals.{then-size-gt0+else-w-eq-DEPTH_LIMIT, else-size-gt0+then-p-at, else-size-gt0+else-p-at}
-
-pub slice_bounds-p-count : goal.slice_bounds-p-count
-slice_bounds-p-count c = let b = c.requires.lies in omega (arith, b.ordered, b.inside)
-
-pub slice_bounds-p-start : goal.slice_bounds-p-start
-slice_bounds-p-start c = let b = c.requires.lies in omega (arith, b.ordered, b.inside)
-
-pub slice_bounds-p-end : goal.slice_bounds-p-end
-slice_bounds-p-end c = let b = c.requires.lies in omega (arith, b.ordered, b.inside)
-
-pub bounds-marks-p : goal.bounds-marks-p
-bounds-marks-p c = let a = c.args in let b = c.requires in omega (arith, part_length a.note.now a.start a.end b.lies.ordered b.lies.inside, b.lies.inside, b.lent.bytes)
+use Rattle.paragraph.proofs.read_paragraph.Goals.{in-Some+else-w-eq-DEPTH_LIMIT, in_default+then-p-w, in_default+else-p-w}
 
 pub loop-w-init : goal.loop-w-init
-loop-w-init c = let a = c.args in let b = c.requires in (refl, rw c.afresh-w.ensures (on_start _ _ _ _ _ _ _ _ b.lent.places (omega (arith, part_length a.note.now a.start a.end b.lies.ordered b.lies.inside, b.lies.ordered, b.lies.inside)) a.from refl b.lies.line), unmade _ a.runs.now, rw c.afresh-w.ensures (parens.unmade _ a.marks.now (omega (arith, part_length a.note.now a.start a.end b.lies.ordered b.lies.inside, b.lies.inside, b.lent.bytes))), refl, refl, refl, b.indexed)
+loop-w-init g c =
+    let a = c.args in
+    let b = c.requires in
+    let size = part_length a.definitions.now.note.now a.start a.end b.lies.ordered b.lies.inside in
+    let marks_length : length a.lent.now.marks ≡ g.row.MARKS = search rules in
+    let stack_length : length a.lent.now.stack ≡ depth_limit = search rules in record {
+      same_spans = refl;
+      on = rw c.afresh-w.ensures (on_start _ _ _ _ _ _ _ _ (omega arith) (omega (arith, size, b.lies.ordered, b.lies.inside)) a.from refl b.lies.line);
+      runs = tt;
+      marks = rw c.afresh-w.ensures (parens.unmade _ a.lent.now.marks (omega (arith, size, b.lies.inside, b.bytes)));
+      marks_length = simp length-set marks_length;
+      stack_length = stack_length;
+      same_index = refl;
+      ready = b.indexed;
+    }
 
-pub overflow_add-result : goal.overflow_add-result
-overflow_add-result c = let l = c.loop-w.invariant.1 in let b = c.requires.lies in omega (arith, open_inside _ _ _ _ _ _ _ l c.loop-w-test.true c.opening_size-size.ensures c.if-size-gt0.true, l.inside, b.places)
-
-pub overflow_sub-result : goal.overflow_sub-result
-overflow_sub-result c = omega (arith, c.if-size-gt0.true)
-
-pub shape_of-index-then-w-eq-DEPTH_LIMIT : goal.shape_of-index-then-w-eq-DEPTH_LIMIT
-shape_of-index-then-w-eq-DEPTH_LIMIT c = c.loop-w.invariant.6
-
-pub shape_of-spans-then-w-eq-DEPTH_LIMIT : goal.shape_of-spans-then-w-eq-DEPTH_LIMIT
-shape_of-spans-then-w-eq-DEPTH_LIMIT c = c.loop-w.invariant.0
-
-pub shape_of-stack-then-w-eq-DEPTH_LIMIT : goal.shape_of-stack-then-w-eq-DEPTH_LIMIT
-shape_of-stack-then-w-eq-DEPTH_LIMIT c = c.loop-w.invariant.5
-
-pub shape_of-marks-then-w-eq-DEPTH_LIMIT : goal.shape_of-marks-then-w-eq-DEPTH_LIMIT
-shape_of-marks-then-w-eq-DEPTH_LIMIT c = c.loop-w.invariant.4 ∙ simp length-set
-
-pub returns-then-w-eq-DEPTH_LIMIT : goal.returns-then-w-eq-DEPTH_LIMIT
-returns-then-w-eq-DEPTH_LIMIT c = record {
-  reads = rw (ap (λ (x : Walk). x.row) c.afresh-w.ensures) at (deep_reads _ _ _ _ _ _ _ c.loop-w.invariant.1 c.loop-w-test.true c.opening_size-size.ensures c.if-size-gt0.true c.if-w-eq-DEPTH_LIMIT.true c.loop-w.spans);
-  indexed_2 = c.loop-w.invariant.7;
-}
+pub returns-then-w-eq-DEPTH_LIMIT-clause-reads : goal.returns-then-w-eq-DEPTH_LIMIT-clause-reads
+returns-then-w-eq-DEPTH_LIMIT-clause-reads g c =
+    rw (ap (λ (x : Walk). x.row) c.afresh-w.ensures) at (deep_reads _ _ _ _ _ _ _ c.loop-w.invariant.on c.loop-w-test.true c.opening_end.ensures c.in-Some.is c.if-w-eq-DEPTH_LIMIT.true c.loop-w.spans)
 
 pub open_bracket-w-requires : goal.open_bracket-w-requires
-open_bracket-w-requires c = let l = c.loop-w.invariant.1 in let b = c.requires in record {
-  lined = lined_here _ _ _ _ _ _ _ l c.loop-w-test.true;
-  room = record { inside = omega (arith, l.waits.room, l.waits.fits, c.if-w-eq-DEPTH_LIMIT.false); some = c.if-size-gt0.true; fits = omega (arith, open_inside _ _ _ _ _ _ _ l c.loop-w-test.true c.opening_size-size.ensures c.if-size-gt0.true, l.inside, b.lies.places) };
-}
+open_bracket-w-requires g c =
+    let l = c.loop-w.invariant.on in
+    let i = open_inside _ _ _ _ _ _ _ l c.loop-w-test.true c.opening_end.ensures c.in-Some.is in record {
+      lined = lined_here _ _ _ _ _ _ _ l c.loop-w-test.true;
+      room = record { inside = omega (arith, l.waits.room, l.waits.fits, c.if-w-eq-DEPTH_LIMIT.false); onward = i.0; fits = omega (arith, i.1, l.inside, c.requires.lies.places) };
+    }
 
 pub close_bracket-w-requires : goal.close_bracket-w-requires
-close_bracket-w-requires c = let l = c.loop-w.invariant in let b = c.requires in record {
-  closing = closing_test _ _ c.loop-w-test.true c.if-p-at.true;
-  waits = waits_here _ _ _ _ _ _ _ l.1 c.loop-w-test.true l.0;
-  bounds = bounds_here b.lies (ap (λ (x : Walk). x.row) c.afresh-w.ensures) l.1 c.loop-w-test.true _ b.lies.definitions;
-  fit = b.fit;
-  indexed = l.7;
-  prepared = l.3;
-  lined = lined_here _ _ _ _ _ _ _ l.1 c.loop-w-test.true;
-}
+close_bracket-w-requires g c =
+    let l = c.loop-w.invariant in
+    let b = c.requires in record {
+      closing = closing_test _ _ c.loop-w-test.true c.if-p-w.true;
+      waits = waits_here _ _ _ _ _ _ _ l.on c.loop-w-test.true l.same_spans;
+      bounds = bounds_here b.lies (ap (λ (x : Walk). x.row) c.afresh-w.ensures) l.on c.loop-w-test.true _ b.lies.definitions;
+      indexed = l.ready;
+      prepared = l.marks;
+      lined = lined_here _ _ _ _ _ _ _ l.on c.loop-w-test.true;
+    }
 
 pub pass_piece-w-requires : goal.pass_piece-w-requires
-pass_piece-w-requires c = let l = c.loop-w.invariant in record {
-  at_in_bounds = c.loop-w-test.true;
-  at_value = omega (arith, c.opening_size-size.ensures, c.if-size-gt0.false);
-  bounds = bounds_here c.requires.lies (ap (λ (x : Walk). x.row) c.afresh-w.ensures) l.1 c.loop-w-test.true _ (omega arith);
-  lined = lined_here _ _ _ _ _ _ _ l.1 c.loop-w-test.true;
-  ready = l.2;
-}
+pass_piece-w-requires g c =
+    let l = c.loop-w.invariant in record {
+      at_in_bounds = c.loop-w-test.true;
+      at_value = search (rules, c.opening_end.ensures, c.in_default.is);
+      bounds = bounds_here c.requires.lies (ap (λ (x : Walk). x.row) c.afresh-w.ensures) l.on c.loop-w-test.true _ (omega arith);
+      lined = lined_here _ _ _ _ _ _ _ l.on c.loop-w-test.true;
+      ready = l.runs;
+    }
 
 pub loop-w-smaller : goal.loop-w-smaller
-loop-w-smaller c =
-    elim c.if-size-gt0.branch [
-      | then-size-gt0+else-w-eq-DEPTH_LIMIT w ↦ omega (arith, c.loop-w-test.true, (open_turn _ _ _ _ _ _ _ c.loop-w.invariant.1 c.loop-w-test.true c.loop-w.invariant.0 c.opening_size-size.ensures w.if-size-gt0.true w.if-w-eq-DEPTH_LIMIT.false w.open_bracket-w.ensures.value w.open_bracket-w.ensures.stack_after w.w-is w.stack-is w.spans-is).1, plain_after _ _ c.plain_end.ensures)
-      | else-size-gt0+then-p-at w ↦ omega (arith, c.loop-w-test.true, (close_turn _ _ _ _ _ _ _ c.loop-w.invariant.1 c.loop-w-test.true c.loop-w.invariant.0 (closing_test _ _ c.loop-w-test.true w.if-p-at.true) w.close_bracket-w.ensures.brackets w.w-is w.stack-is w.spans-is).1, plain_after _ _ c.plain_end.ensures)
-      | else-size-gt0+else-p-at w ↦ omega (arith, c.loop-w-test.true, (piece_turn _ _ _ _ _ _ _ c.loop-w.invariant.1 c.loop-w-test.true c.opening_size-size.ensures w.if-size-gt0.false w.if-p-at.false (w.pass_piece-w.ensures.passes.0 _ _) (w.pass_piece-w.ensures.passes.1, w.pass_piece-w.ensures.passes.2) w.w-is w.stack-is w.spans-is).1, plain_after _ _ c.plain_end.ensures)
+loop-w-smaller g c =
+    elim c.match-opening_end.branch [
+      | in-Some+else-w-eq-DEPTH_LIMIT w ↦ omega (arith, c.loop-w-test.true, (open_turn _ _ _ _ _ _ _ c.loop-w.invariant.on c.loop-w-test.true c.loop-w.invariant.same_spans c.opening_end.ensures w.in-Some.is w.if-w-eq-DEPTH_LIMIT.false w.open_bracket-w.ensures.value w.open_bracket-w.ensures.stack_after w.w-is (ap (λ (x : Lent g.row.MARKS). x.stack) w.lent-is) w.spans-is).1, plain_after _ _ c.plain_end.ensures)
+      | in_default+then-p-w w ↦ omega (arith, c.loop-w-test.true, (close_turn _ _ _ _ _ _ _ c.loop-w.invariant.on c.loop-w-test.true c.loop-w.invariant.same_spans (closing_test _ _ c.loop-w-test.true w.if-p-w.true) w.close_bracket-w.ensures.brackets w.w-is (ap (λ (x : Lent g.row.MARKS). x.stack) w.lent-is) w.spans-is).1, plain_after _ _ c.plain_end.ensures)
+      | in_default+else-p-w w ↦ omega (arith, c.loop-w-test.true, (piece_turn _ _ _ _ _ _ _ c.loop-w.invariant.on c.loop-w-test.true c.opening_end.ensures w.in_default.is w.if-p-w.false (w.pass_piece-w.ensures.passes.0 _ _) (w.pass_piece-w.ensures.passes.1, w.pass_piece-w.ensures.passes.2) w.w-is (ap (λ (x : Lent g.row.MARKS). x.stack) w.lent-is) w.spans-is).1, plain_after _ _ c.plain_end.ensures)
     ]
 
 pub loop-w-preserved : goal.loop-w-preserved
-loop-w-preserved c =
+loop-w-preserved g c =
     let l = c.loop-w.invariant in
-    elim c.if-size-gt0.branch [
-      | then-size-gt0+else-w-eq-DEPTH_LIMIT w ↦
-          let t = open_turn _ _ _ _ _ _ _ c.loop-w.invariant.1 c.loop-w-test.true c.loop-w.invariant.0 c.opening_size-size.ensures w.if-size-gt0.true w.if-w-eq-DEPTH_LIMIT.false w.open_bracket-w.ensures.value w.open_bracket-w.ensures.stack_after w.w-is w.stack-is w.spans-is in
-          (ap length w.spans-is ∙ l.0, plain_on _ _ _ _ _ _ _ t.0 c.plain_end.ensures, rw w.runs-is l.2, rw w.marks-is (parens.later (omega (arith, t.1, plain_after _ _ c.plain_end.ensures)) l.3), ap length w.marks-is ∙ l.4, ap length w.stack-is ∙ w.open_bracket-w.auto.stack ∙ l.5, ap length w.index-is ∙ l.6, rw w.index-is l.7)
-      | else-size-gt0+then-p-at w ↦
-          let t = close_turn _ _ _ _ _ _ _ c.loop-w.invariant.1 c.loop-w-test.true c.loop-w.invariant.0 (closing_test _ _ c.loop-w-test.true w.if-p-at.true) w.close_bracket-w.ensures.brackets w.w-is w.stack-is w.spans-is in
-          let a = w.close_bracket-w.auto in
-          let e = w.close_bracket-w.ensures in
-          (ap length w.spans-is ∙ a.spans ∙ l.0, plain_on _ _ _ _ _ _ _ t.0 c.plain_end.ensures, rw w.runs-is l.2, rw w.marks-is (parens.later (omega (arith, ap (λ (x : Walk). x.at) w.w-is, plain_after _ _ c.plain_end.ensures)) e.prepared_2), ap length w.marks-is ∙ a.marks ∙ l.4, ap length w.stack-is ∙ l.5, ap length w.index-is ∙ a.index ∙ l.6, rw w.index-is e.indexed_2)
-      | else-size-gt0+else-p-at w ↦
-          let t = piece_turn _ _ _ _ _ _ _ c.loop-w.invariant.1 c.loop-w-test.true c.opening_size-size.ensures w.if-size-gt0.false w.if-p-at.false (w.pass_piece-w.ensures.passes.0 _ _) (w.pass_piece-w.ensures.passes.1, w.pass_piece-w.ensures.passes.2) w.w-is w.stack-is w.spans-is in
-          (ap length w.spans-is ∙ w.pass_piece-w.auto.spans ∙ l.0, plain_on _ _ _ _ _ _ _ t.0 c.plain_end.ensures, rw w.runs-is w.pass_piece-w.ensures.ready_2, rw w.marks-is (parens.later (omega (arith, t.1, plain_after _ _ c.plain_end.ensures)) l.3), ap length w.marks-is ∙ l.4, ap length w.stack-is ∙ l.5, ap length w.index-is ∙ l.6, rw w.index-is l.7)
+    let stack_of = λ (x : Lent g.row.MARKS). x.stack in
+    let marks_of = λ (x : Lent g.row.MARKS). x.marks in
+    let runs_of = λ (x : Lent g.row.MARKS). x.runs in
+    elim c.match-opening_end.branch [
+      | in-Some+else-w-eq-DEPTH_LIMIT w ↦
+          let t = open_turn _ _ _ _ _ _ _ l.on c.loop-w-test.true l.same_spans c.opening_end.ensures w.in-Some.is w.if-w-eq-DEPTH_LIMIT.false w.open_bracket-w.ensures.value w.open_bracket-w.ensures.stack_after w.w-is (ap stack_of w.lent-is) w.spans-is in record {
+            same_spans = ap length w.spans-is ∙ l.same_spans;
+            on = plain_on _ _ _ _ _ _ _ t.0 c.plain_end.ensures;
+            runs = rw (ap runs_of w.lent-is) l.runs;
+            marks = rw (ap marks_of w.lent-is) (parens.later (omega (arith, t.1, plain_after _ _ c.plain_end.ensures)) l.marks);
+            marks_length = ap length (ap marks_of w.lent-is) ∙ l.marks_length;
+            stack_length = ap length (ap stack_of w.lent-is) ∙ w.open_bracket-w.auto.stack ∙ l.stack_length;
+            same_index = ap length w.index-is ∙ l.same_index;
+            ready = rw w.index-is l.ready;
+          }
+      | in_default+then-p-w w ↦
+          let t = close_turn _ _ _ _ _ _ _ l.on c.loop-w-test.true l.same_spans (closing_test _ _ c.loop-w-test.true w.if-p-w.true) w.close_bracket-w.ensures.brackets w.w-is (ap stack_of w.lent-is) w.spans-is in
+          let e = w.close_bracket-w.ensures in record {
+            same_spans = ap length w.spans-is ∙ w.close_bracket-w.auto.spans ∙ l.same_spans;
+            on = plain_on _ _ _ _ _ _ _ t.0 c.plain_end.ensures;
+            runs = rw (ap runs_of w.lent-is) l.runs;
+            marks = rw (ap marks_of w.lent-is) (parens.later (omega (arith, ap (λ (x : Walk). x.at) w.w-is, plain_after _ _ c.plain_end.ensures)) e.prepared_2);
+            marks_length = ap length (ap marks_of w.lent-is) ∙ w.close_bracket-w.auto.marks ∙ l.marks_length;
+            stack_length = ap length (ap stack_of w.lent-is) ∙ l.stack_length;
+            same_index = ap length w.index-is ∙ w.close_bracket-w.auto.index ∙ l.same_index;
+            ready = rw w.index-is e.indexed_2;
+          }
+      | in_default+else-p-w w ↦
+          let t = piece_turn _ _ _ _ _ _ _ l.on c.loop-w-test.true c.opening_end.ensures w.in_default.is w.if-p-w.false (w.pass_piece-w.ensures.passes.0 _ _) (w.pass_piece-w.ensures.passes.1, w.pass_piece-w.ensures.passes.2) w.w-is (ap stack_of w.lent-is) w.spans-is in record {
+            same_spans = ap length w.spans-is ∙ w.pass_piece-w.auto.spans ∙ l.same_spans;
+            on = plain_on _ _ _ _ _ _ _ t.0 c.plain_end.ensures;
+            runs = rw (ap runs_of w.lent-is) w.pass_piece-w.ensures.ready_2;
+            marks = rw (ap marks_of w.lent-is) (parens.later (omega (arith, t.1, plain_after _ _ c.plain_end.ensures)) l.marks);
+            marks_length = ap length (ap marks_of w.lent-is) ∙ l.marks_length;
+            stack_length = ap length (ap stack_of w.lent-is) ∙ l.stack_length;
+            same_index = ap length w.index-is ∙ l.same_index;
+            ready = rw w.index-is l.ready;
+          }
     ]
 
-pub shape_of-index : goal.shape_of-index
-shape_of-index c = c.loop-w.invariant.6
-
-pub shape_of-spans : goal.shape_of-spans
-shape_of-spans c = c.loop-w.invariant.0
-
-pub shape_of-stack : goal.shape_of-stack
-shape_of-stack c = c.loop-w.invariant.5
-
-pub shape_of-marks : goal.shape_of-marks
-shape_of-marks c = c.loop-w.invariant.4 ∙ simp length-set
-
-pub returns : goal.returns
-returns c = record {
-  reads = rw (ap (λ (x : Walk). x.row) c.afresh-w.ensures) at (on_end _ _ _ _ _ _ _ c.loop-w.invariant.1 c.loop-w-test.false);
-  indexed_2 = c.loop-w.invariant.7;
-}
+pub returns-clause-reads : goal.returns-clause-reads
+returns-clause-reads g c = rw (ap (λ (x : Walk). x.row) c.afresh-w.ensures) at (on_end _ _ _ _ _ _ _ c.loop-w.invariant.on c.loop-w-test.false)

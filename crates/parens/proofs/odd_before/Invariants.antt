@@ -6,6 +6,3 @@ use Rattle.parens.proofs.odd_before.Given as goal
 
 abbrev pub invariant-loop-k : goal.invariant-loop-k
 invariant-loop-k l = (l.k ≤ l.i) × (flip l.odd (slashed l.s l.k) ≡ slashed l.s l.i)
-
-abbrev pub decreases-loop-k : goal.decreases-loop-k
-decreases-loop-k l = l.k

@@ -5,6 +5,3 @@ use Rattle.parens.proofs.open_marks.Given as goal
 
 abbrev pub invariant-loop-i : goal.invariant-loop-i
 invariant-loop-i l = (length l.marks ≡ length l.initial.marks) × Filled l.s l.i l.c l.marks
-
-abbrev pub decreases-loop-i : goal.decreases-loop-i
-decreases-loop-i l = l.i

@@ -7,7 +7,7 @@ use Rattle.order.specs.Order.{mixed, front, key}
 use Rattle.ranking.proofs.key_of.Given as goal
 
 abbrev pub invariant-loop-h : goal.invariant-loop-h
-invariant-loop-h l = (l.h < 4294967296) × (front (mixed l.h (form_from l.s l.i)) ≡ key (compared l.s)) × (length l.s < 2 ^ 64)
+invariant-loop-h l = (front (mixed l.h (form_from l.s l.i)) ≡ key (compared l.s)) × (length l.s < 2 ^ 64)
 
 abbrev pub decreases-loop-h : goal.decreases-loop-h
 decreases-loop-h l = length l.s - l.i

@@ -1,19 +1,12 @@
 -- Both ways through are the two arms of `mix_gap`.
-use borrow.Author.Rules.{rules}
 use mathlib.Core.Path.{refl, sym, ◌∙◌}
 use Rattle.ranking.specs.Gap.{mix_gap}
 use Rattle.ranking.proofs.mixed_gap.Goals as goal
 
-pub returns-then-gap_before : goal.returns-then-gap_before
+pub returns-then-has_gap : goal.returns-then-has_gap
 unfolding mix_gap
-returns-then-gap_before c = record {
-  value = rw (sym c.gap_before.ensures ∙ c.if-gap_before.true) c.mixed_in.ensures.value;
-  upper_bound = c.mixed_in.ensures.upper_bound;
-}
+returns-then-has_gap c = rw (sym c.has_gap.ensures ∙ c.if-has_gap.true) c.mixed_in.ensures
 
 pub returns : goal.returns
 unfolding mix_gap
-returns c = record {
-  value = rw (sym c.gap_before.ensures ∙ c.if-gap_before.false) refl;
-  upper_bound = search rules;
-}
+returns c = rw (sym c.has_gap.ensures ∙ c.if-has_gap.false) refl

@@ -4,17 +4,8 @@ use mathlib.Core.Path.{◌∙◌}
 use Rattle.row.proofs.Turn.{from_first, row_none}
 use Rattle.row.proofs.lookup.Goals as goal
 
-pub returns-then-n-eq0 : goal.returns-then-n-eq0
-returns-then-n-eq0 c = let z = c.if-n-eq0.true in row_none _ _ _ (from_first _ _ _ _) (omega arith)
-
-pub label_at-own-requires : goal.label_at-own-requires
-label_at-own-requires c =
-    let f = c.requires in
-    let r = f.room in
-    let z = c.if-n-eq0.false in record {
-      at_in_bounds = omega arith;
-      within = f.labels 0 (omega arith);
-    }
+pub returns-then-d-eq0 : goal.returns-then-d-eq0
+returns-then-d-eq0 c = let z = c.if-d-eq0.true in row_none _ _ _ (from_first _ _ _ _) (omega arith)
 
 pub returns-then-first-peek : goal.returns-then-first-peek
 returns-then-first-peek c = c.lookup_by_table.ensures ∙ from_first _ _ _ _

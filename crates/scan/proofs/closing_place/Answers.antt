@@ -1,18 +1,11 @@
 -- The loop's state is the definition's state, and each way through a turn is one case of `closing_step`.
-use borrow.Author.Rules.{rules}
-use Rattle.scan.proofs.Scan.{stops, goes, ends}
+use Rattle.std.proofs.Common.{rules}
 use Rattle.scan.specs.Reading.{closing}
+use Rattle.scan.proofs.Scan.{stops, goes, ends}
 use Rattle.scan.proofs.Closing.{closes, bars, passed}
 use Rattle.scan.proofs.closing_place.Goals as goal
 
 ruleset turns = (stops, goes, ends, closes, bars, passed, rules)
-
-pub loop-i-init : goal.loop-i-init
-unfolding closing
-loop-i-init c = search turns
-
-pub bounds-s-i : goal.bounds-s-i
-bounds-s-i c = search turns
 
 pub returns-then-inside-b : goal.returns-then-inside-b
 returns-then-inside-b c = search turns
@@ -20,17 +13,12 @@ returns-then-inside-b c = search turns
 pub returns-then-inside-b-2 : goal.returns-then-inside-b-2
 returns-then-inside-b-2 c = search turns
 
-pub escape_at-requires : goal.escape_at-requires
-escape_at-requires c = search turns
-
-pub overflow_add-i : goal.overflow_add-i
-overflow_add-i c = search turns
-
-pub loop-i-smaller : goal.loop-i-smaller
-loop-i-smaller c = search turns
-
 pub loop-i-preserved : goal.loop-i-preserved
 loop-i-preserved c = search turns
+
+pub loop-i-init : goal.loop-i-init
+unfolding closing
+loop-i-init c = search turns
 
 pub returns : goal.returns
 returns c = search turns

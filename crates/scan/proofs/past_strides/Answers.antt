@@ -1,27 +1,20 @@
--- The place past the strides is the same from every place passed.
-use borrow.Author.Rules.{rules}
-use Rattle.scan.proofs.Strides.{strides_on, strides_stop, strides_end}
+-- A slice of sixteen that passes is a stride.
+use Rattle.std.proofs.Common.{rules, arith}
+use Rattle.scan.proofs.Strides.{slice_told, strides_on, strides_stop, strides_end, strides_short}
 use Rattle.scan.proofs.past_strides.Goals as goal
 
-ruleset turns = (strides_on, strides_stop, strides_end, rules)
+pub returns-then-s-i-lt16 : goal.returns-then-s-i-lt16
+returns-then-s-i-lt16 g c = search (strides_short, rules)
 
-pub loop-i-init : goal.loop-i-init
-loop-i-init c = search turns
-
-pub sixteen_clear-requires : goal.sixteen_clear-requires
-sixteen_clear-requires c = search turns
-
-pub returns-then-not-sixteen_clear : goal.returns-then-not-sixteen_clear
-returns-then-not-sixteen_clear c = search turns
-
-pub overflow_add-i : goal.overflow_add-i
-overflow_add-i c = search turns
-
-pub loop-i-smaller : goal.loop-i-smaller
-loop-i-smaller c = search turns
+pub returns-then-not-all_pass : goal.returns-then-not-all_pass
+returns-then-not-all_pass g c =
+    let told = slice_told (g.C.Class.has c.args.class.now) c.args.s.now c.loop-i.i 16 (omega arith) c.all_pass.ensures in
+    search (strides_stop, told, rules)
 
 pub loop-i-preserved : goal.loop-i-preserved
-loop-i-preserved c = search turns
+loop-i-preserved g c =
+    let told = slice_told (g.C.Class.has c.args.class.now) c.args.s.now c.loop-i.i 16 (omega arith) c.all_pass.ensures in
+    search (strides_on, told, rules)
 
 pub returns : goal.returns
-returns c = search turns
+returns g c = search (strides_end, rules)

@@ -4,5 +4,5 @@ use Rattle.searching.proofs.back_is_greater.Goals as goal
 
 pub returns : goal.returns
 returns c =
-    let r = c.requires in
-    back_shown r.sorted _ r.h_value _ c.key_at.ensures
+    let a = c.args in
+    back_shown a.rows.now.sorted _ a.sought.now.keyed _ c.entry.ensures c.key.ensures

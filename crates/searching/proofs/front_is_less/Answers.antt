@@ -4,5 +4,5 @@ use Rattle.searching.proofs.front_is_less.Goals as goal
 
 pub returns : goal.returns
 returns c =
-    let r = c.requires in
-    front_shown r.sorted _ r.h_value _ r.lo_le_count c.if-lo-eq0.false c.key_at.ensures
+    let a = c.args in
+    front_shown a.rows.now.sorted _ a.sought.now.keyed _ c.requires c.if-lo-eq0.false c.entry.ensures c.key.ensures

@@ -24,20 +24,20 @@ returns-in_default c = record {
 }
 
 pub overflow_add-start-2 : goal.overflow_add-start-2
-overflow_add-start-2 c = omega (arith, code_ends c.args.p.now c.args.w c.requires.backtick_at c.backticks_end-first.result c.backticks_end-first.ensures c.closing_run_lazy.ensures.value c.in-At.e c.in-At.is, c.requires.bounds.places)
+overflow_add-start-2 c = omega (arith, code_ends c.args.p.now c.args.w c.requires.backtick_at c.backticks_end-first.result c.backticks_end-first.ensures c.closing_run_lazy.ensures.value c.in-Some.e c.in-Some.is, c.requires.bounds.places)
 
 pub overflow_add-start-3 : goal.overflow_add-start-3
 overflow_add-start-3 c = omega (arith, first_inside c.args.p.now c.args.w c.requires.backtick_at c.backticks_end-first.result c.backticks_end-first.ensures, c.requires.bounds.places)
 
 pub overflow_sub-e : goal.overflow_sub-e
-overflow_sub-e c = omega (arith, code_ends c.args.p.now c.args.w c.requires.backtick_at c.backticks_end-first.result c.backticks_end-first.ensures c.closing_run_lazy.ensures.value c.in-At.e c.in-At.is, first_after c.args.p.now c.args.w c.requires.backtick_at c.backticks_end-first.result c.backticks_end-first.ensures)
+overflow_sub-e c = omega (arith, code_ends c.args.p.now c.args.w c.requires.backtick_at c.backticks_end-first.result c.backticks_end-first.ensures c.closing_run_lazy.ensures.value c.in-Some.e c.in-Some.is, first_after c.args.p.now c.args.w c.requires.backtick_at c.backticks_end-first.result c.backticks_end-first.ensures)
 
 pub overflow_add-start-4 : goal.overflow_add-start-4
-overflow_add-start-4 c = omega (arith, code_ends c.args.p.now c.args.w c.requires.backtick_at c.backticks_end-first.result c.backticks_end-first.ensures c.closing_run_lazy.ensures.value c.in-At.e c.in-At.is, c.requires.bounds.places)
+overflow_add-start-4 c = omega (arith, code_ends c.args.p.now c.args.w c.requires.backtick_at c.backticks_end-first.result c.backticks_end-first.ensures c.closing_run_lazy.ensures.value c.in-Some.e c.in-Some.is, c.requires.bounds.places)
 
 pub store-requires : goal.store-requires
 store-requires c = record {
-  small = code_small c.args.p.now c.args.w c.requires.backtick_at c.backticks_end-first.result c.backticks_end-first.ensures c.closing_run_lazy.ensures.value c.in-At.e c.in-At.is c.args.start c.code_span.ensures c.new-whole.ensures c.new-text.ensures c.requires.bounds.places;
+  small = code_small c.args.p.now c.args.w c.requires.backtick_at c.backticks_end-first.result c.backticks_end-first.ensures c.closing_run_lazy.ensures.value c.in-Some.e c.in-Some.is c.args.start c.code_span.ensures c.new-whole.ensures c.new-text.ensures c.requires.bounds.places;
   line_bound = line_small c.args.note.now c.args.start c.args.spans.now c.args.w c.requires.lined c.count_lines-v.ensures (omega (arith, c.requires.backtick_at.inside, c.requires.bounds.places));
 }
 
@@ -46,6 +46,6 @@ overflow_add-v c = omega (arith, c.requires.bounds.rows)
 
 pub returns : goal.returns
 returns c = let l = c.requires.lined in let q = c.count_lines-v.ensures in record {
-  passes = ((λ labels ds. step_counted c.args.note.now c.args.start c.args.spans.now c.args.w l q _ labels ds c.in-At.e (code_here c.args.p.now c.args.w c.requires.backtick_at c.backticks_end-first.result c.backticks_end-first.ensures c.closing_run_lazy.ensures.value c.in-At.e c.in-At.is) (code_row c.args.p.now c.args.w c.requires.backtick_at c.backticks_end-first.result c.backticks_end-first.ensures c.closing_run_lazy.ensures.value c.in-At.e c.in-At.is c.args.start c.code_span.ensures c.new-whole.ensures c.new-text.ensures ds) c.store.ensures), ap (λ (x : Walk). x.depth) q, still_lined c.args.note.now c.args.start c.args.spans.now c.args.w l q);
+  passes = ((λ labels ds. step_counted c.args.note.now c.args.start c.args.spans.now c.args.w l q _ labels ds c.in-Some.e (code_here c.args.p.now c.args.w c.requires.backtick_at c.backticks_end-first.result c.backticks_end-first.ensures c.closing_run_lazy.ensures.value c.in-Some.e c.in-Some.is) (code_row c.args.p.now c.args.w c.requires.backtick_at c.backticks_end-first.result c.backticks_end-first.ensures c.closing_run_lazy.ensures.value c.in-Some.e c.in-Some.is c.args.start c.code_span.ensures c.new-whole.ensures c.new-text.ensures ds) c.store.ensures), ap (λ (x : Walk). x.depth) q, still_lined c.args.note.now c.args.start c.args.spans.now c.args.w l q);
   ready_2 = c.closing_run_lazy.ensures.ready_2;
 }

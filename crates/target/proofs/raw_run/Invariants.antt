@@ -1,11 +1,8 @@
 use mathlib.Core.Path.{◌≡◌}
-use Prim.Native.Nat.{◌-◌, ◌≤◌}
-use lib.ListN.{length, drop}
-use Rattle.target.specs.Reading.{raw_from, raw_run}
+use Prim.Native.Nat.{◌≤◌}
+use lib.ListN.{drop}
+use Rattle.target.specs.Reading.{run_from, run_to}
 use Rattle.target.proofs.raw_run.Given as goal
 
 abbrev pub invariant-loop-i : goal.invariant-loop-i
-invariant-loop-i l = (l.depth ≤ l.i) × (raw_from (drop l.i l.s) (record { at = l.i; inside = l.inside; depth = l.depth }) ≡ raw_run (drop l.at l.s) l.at)
-
-abbrev pub decreases-loop-i : goal.decreases-loop-i
-decreases-loop-i l = length l.s - l.i
+invariant-loop-i l = (l.depth ≤ l.i) × (run_from l.marks (drop l.i l.s) (record { at = l.i; inside = l.inside; depth = l.depth }) ≡ run_to l.marks (drop l.at l.s) l.at)

@@ -2,7 +2,7 @@
 use native.Mathlib.Omega.{arith}
 use Rattle.inline.specs.Pieces.{backtick}
 use Rattle.ticks.proofs.Past.{past_low, within, further}
-use Rattle.ticks.proofs.Passing.{begins, turn, all_seen, told_made}
+use Rattle.ticks.proofs.Passing.{begins, turn, all_seen}
 use Rattle.ticks.proofs.last_runs.Goals as goal
 
 pub loop-i-init : goal.loop-i-init
@@ -28,8 +28,4 @@ loop-i-preserved c =
     turn c.args.p.now c.loop-i.i c.loop-i.table c.loop-i.invariant c.next_backtick-a.ensures c.backticks_end-e.ensures c.put.ensures
 
 pub returns : goal.returns
-returns c =
-    let p = c.args.p.now in record {
-      last_runs = all_seen p c.loop-i.i c.loop-i.table c.loop-i.invariant c.loop-i-test.false;
-      nonzero = told_made p c.loop-i.i c.loop-i.table c.loop-i.invariant;
-    }
+returns c = all_seen c.args.p.now c.loop-i.i c.loop-i.table c.loop-i.invariant c.loop-i-test.false

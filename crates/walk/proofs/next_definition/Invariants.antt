@@ -5,8 +5,8 @@ use Rattle.walk.specs.Reading.{definitions_after}
 use Rattle.walk.proofs.Steps.{cursor}
 use Rattle.walk.proofs.next_definition.Given as goal
 
-abbrev pub invariant-loop-d : goal.invariant-loop-d
-invariant-loop-d l = (l.initial.at ≤ l.at) × (l.at ≤ l.end) × (l.end ≤ length l.note) × (definitions_after l.note (cursor l.at l.end) ≡ definitions_after l.note (cursor l.initial.at l.initial.end))
+abbrev pub invariant-loop-entry : goal.invariant-loop-entry
+invariant-loop-entry l = (l.initial.at ≤ l.at) × (l.at ≤ l.end) × (l.end ≤ length l.note) × (definitions_after l.note (cursor l.at l.end) ≡ definitions_after l.note (cursor l.initial.at l.initial.end))
 
-abbrev pub decreases-loop-d : goal.decreases-loop-d
-decreases-loop-d l = length l.note - l.end
+abbrev pub decreases-loop-entry : goal.decreases-loop-entry
+decreases-loop-entry l = length l.note - l.end

@@ -1,41 +1,14 @@
--- Each turn passes a block of which nothing is left.
-use borrow.Author.Rules.{rules}
-use mathlib.Core.Path.{sym}
-use lib.Seq.{length-take-le}
-use Rattle.walk.proofs.Steps.{no_paragraph, all_taken, paragraph_here, block_inside, block_ends, block_less}
+use Rattle.std.proofs.Common.{rules}
+use native.Mathlib.Omega.{arith}
+use Rattle.walk.specs.Promise.{FirstBlock}
+use Rattle.walk.proofs.Steps.{all_taken, paragraph_here}
 use Rattle.walk.proofs.next_paragraph.Goals as goal
 
-ruleset turns = (no_paragraph, all_taken, paragraph_here, block_inside, block_ends, block_less, rules)
+pub returns-then-start-block : goal.returns-then-start-block
+returns-then-start-block c =
+    paragraph_here c.args.note.now c.args.at c.loop-block.i c.loop-block.invariant.1 c.in_ok-block.ensures c.block_rest-start.ensures c.loop-block.invariant.0 (omega arith) c.paragraph_end.ensures
 
-pub loop-from-init : goal.loop-from-init
-loop-from-init c = search turns
-
-pub next_block-requires : goal.next_block-requires
-next_block-requires c = search turns
-
-pub enum_known-from : goal.enum_known-from
-enum_known-from c = search turns
-
-pub enum_told-1 : goal.enum_told-1
-enum_told-1 c = search turns
-
-pub returns-in_default : goal.returns-in_default
-returns-in_default c = search turns
-
-pub slice_bounds-block-end : goal.slice_bounds-block-end
-slice_bounds-block-end c = sym (length-take-le c.in-At.to c.args.note.now (search turns))
-
-pub block_rest-start-requires : goal.block_rest-start-requires
-block_rest-start-requires c = search turns
-
-pub paragraph_end-requires : goal.paragraph_end-requires
-paragraph_end-requires c = search turns
-
-pub returns-then-start-to : goal.returns-then-start-to
-returns-then-start-to c = search turns
-
-pub loop-from-smaller : goal.loop-from-smaller
-loop-from-smaller c = search turns
-
-pub loop-from-preserved : goal.loop-from-preserved
-loop-from-preserved c = search turns
+pub loop-block-preserved : goal.loop-block-preserved
+loop-block-preserved c =
+    let f : FirstBlock c.args.note.now c.loop-block.i c.in_ok-block.block.start c.in_ok-block.block.end = c.in_ok-block.ensures in
+    (omega (arith, f.low, f.nonempty), all_taken c.args.note.now c.args.at c.loop-block.i c.loop-block.invariant.1 f c.block_rest-start.ensures (omega arith))

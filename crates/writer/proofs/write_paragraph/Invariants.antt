@@ -1,10 +1,10 @@
 use Prim.Native.Nat.{◌-◌}
-use Rattle.texts.specs.Texts.{texts}
+use Rattle.writer.specs.Pass.{texts_of}
 use Rattle.writer.proofs.Paragraphs.{Going}
 use Rattle.writer.proofs.write_paragraph.Given as goal
 
-abbrev pub invariant-loop-w : goal.invariant-loop-w
-invariant-loop-w l = Going (texts l.note l.sheet) l.end l.initial.w l.initial.page l.page l.w
+abbrev pub invariant-loop-p : goal.invariant-loop-p
+invariant-loop-p l = Going (texts_of l.source) l.end l.initial.p l.initial.page l.page l.p
 
-abbrev pub decreases-loop-w : goal.decreases-loop-w
-decreases-loop-w l = l.end - l.w.at
+abbrev pub decreases-loop-p : goal.decreases-loop-p
+decreases-loop-p l = l.end - l.p.at
