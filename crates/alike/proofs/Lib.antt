@@ -5,3 +5,4 @@ pub mod Quick
 pub mod Opening
 pub mod Bytes
 pub mod Run
+pub mod Counting

@@ -3,7 +3,7 @@
 // lent, since it is built anew at each use.
 #![tactic(auto)]
 
-ghost use Rattle.std.specs.Prelude.{◌≡◌, false, ◌<◌, length, get_or, leb, IfSome};
+ghost use Rattle.std.specs.Prelude.{◌≡◌, false, ◌<◌, length, get_or, leb, IfSome, IfOk, IfErr};
 ghost use Rattle.std.specs.Iterator.{YieldsFirst, item_count};
 ghost use Rattle.scan.specs.Byte.{blank};
 ghost use Rattle.scan.specs.Reading.{past};
@@ -43,6 +43,13 @@ pub fn past_blanks(s: &[u8], at: usize) -> usize
     scan::past_long(s, at, &Blank)
 }
 
+// Whether the blanks from `i` to `p` count as a space: there are some, and not at the start.
+pub fn gap_before(i: usize, p: usize) -> bool
+    ensures { result ≡ gap i p }
+{
+    (i != 0) & (p != i)
+}
+
 // Where a label goes on that was read up to `from`: at `at`, past the blanks there.
 #[derive(Clone, Copy)]
 pub struct Place<'a> {
@@ -70,11 +77,11 @@ impl<'a> Place<'a> {
         self.label.len() <= self.at
     }
 
-    // Whether the blanks count as a space: there are some, and not at the start.
+    // Whether the blanks count as a space.
     pub fn has_gap(&self) -> bool
         ensures { result ≡ gap self.now.from self.now.at }
     {
-        (self.from != 0) & (self.at != self.from)
+        gap_before(self.from, self.at)
     }
 
     // The byte there, and 0 where the label is over.
@@ -83,14 +90,39 @@ impl<'a> Place<'a> {
     {
         scan::peek(self.label, self.at)
     }
+
+    // Whether the label and another that goes on at `other` are surely not equal.
+    pub fn is_apart_from(&self, other: &Place) -> bool
+        ensures { result ≡ apart self.now.label.now other.now.label.now self.now.from other.now.from self.now.at other.now.at (get_or self.now.label.now self.now.at 0) (get_or other.now.label.now other.now.at 0) }
+    {
+        are_apart(
+            self.label,
+            other.label,
+            self.from,
+            other.from,
+            self.at,
+            other.at,
+            self.byte(),
+            other.byte(),
+        )
+    }
 }
 
-// Whether two labels are level: both are over, or neither is and the gaps agree.
+// Whether two labels are level, where they were read to `i` and `j` and the blanks there reach to `p` and `q`: both are over, or neither
+// is and the gaps agree.
+fn level_at(a: &[u8], b: &[u8], i: usize, j: usize, p: usize, q: usize) -> bool
+    ensures { result ≡ level a.now b.now i j p q }
+{
+    let over = a.len() <= p;
+    let gaps = gap_before(i, p) == gap_before(j, q);
+    (over == (b.len() <= q)) & (over | gaps)
+}
+
+// The same at two places.
 fn are_level(x: &Place, y: &Place) -> bool
     ensures { result ≡ level x.now.label.now y.now.label.now x.now.from y.now.from x.now.at y.now.at }
 {
-    let over = x.is_over();
-    (over == y.is_over()) & (over | (x.has_gap() == y.has_gap()))
+    level_at(x.label, y.label, x.from, y.from, x.at, y.at)
 }
 
 // ---- single bytes
@@ -124,8 +156,9 @@ fn same_at(a: &[u8], b: &[u8], i: usize, j: usize, most: u8) -> bool
     (x == y) & ((32 < x) & (x <= most))
 }
 
-// How many such bytes stand in both from `i` and `j` on.
-pub fn same_count(a: &[u8], b: &[u8], i: usize, j: usize, most: u8) -> usize
+// How many such bytes stand in both from `i` and `j` on. Out of line, so that ASCII and other bytes are passed by one loop, in the same time.
+#[inline(never)]
+fn count_on(a: &[u8], b: &[u8], i: usize, j: usize, most: u8) -> usize
     ensures { SameCount most a.now b.now i j result }
 {
     let mut n = 0;
@@ -133,6 +166,16 @@ pub fn same_count(a: &[u8], b: &[u8], i: usize, j: usize, most: u8) -> usize
         n += 1;
     }
     n
+}
+
+// The same. It counts on what is left of both, where one test of each byte tells the end of either.
+pub fn same_count(a: &[u8], b: &[u8], i: usize, j: usize, most: u8) -> usize
+    ensures { SameCount most a.now b.now i j result }
+{
+    if !same_at(a, b, i, j, most) {
+        return 0;
+    }
+    count_on(&a[i..], &b[j..], 0, 0, most)
 }
 
 // Whether a byte begins a character of two bytes that the table may have.
@@ -158,16 +201,15 @@ fn same_run(a: &[u8], b: &[u8], i: usize, j: usize) -> usize
 
 // ---- a step of comparing
 
-// Whether two labels are surely not equal: they are not level, or ASCII bytes are unlike when folded.
-pub fn are_apart(x: &Place, y: &Place) -> bool
-    ensures { result ≡ apart x.now.label.now y.now.label.now x.now.from y.now.from x.now.at y.now.at (get_or x.now.label.now x.now.at 0) (get_or y.now.label.now y.now.at 0) }
+// Whether two labels are surely not equal, where they were read to `i` and `j`, the blanks there reach to `p` and `q`, and `x` and `y` come
+// next: they are not level, or ASCII bytes are unlike when folded.
+pub fn are_apart(a: &[u8], b: &[u8], i: usize, j: usize, p: usize, q: usize, x: u8, y: u8) -> bool
+    ensures { result ≡ apart a.now b.now i j p q x y }
 {
-    let own = x.byte();
-    let other = y.byte();
-    if !is_beyond(own, other) & (folding::lowered(own) != folding::lowered(other)) {
+    if !is_beyond(x, y) & (folding::lowered(x) != folding::lowered(y)) {
         return true;
     }
-    !are_level(x, y)
+    !level_at(a, b, i, j, p, q)
 }
 
 // How many bytes both labels have in common there, where they are not apart; none where the table has to tell.
@@ -185,35 +227,45 @@ pub fn shared(x: &Place, y: &Place) -> Option<usize>
     Some(1 + same_count(x.label, y.label, x.at + 1, y.at + 1, ASCII))
 }
 
-// Whether two labels are equal, where that can be told without the table.
-pub fn same_quick(a: &[u8], b: &[u8]) -> Option<bool>
-    ensures { IfSome result (λ answer. answer ≡ matches a.now b.now) }
+// Whether two labels are equal, where that can be told without the table; otherwise how far both were read.
+fn same_or_places(a: &[u8], b: &[u8]) -> Result<bool, (usize, usize)>
+    ensures told { IfOk result (λ answer. answer ≡ matches a.now b.now) }
+    ensures left { IfErr result (λ at. equals (form_from a.now at.0) (form_from b.now at.1) ≡ matches a.now b.now) }
 {
     if are_unlike(scan::peek(a, 0), scan::peek(b, 0)) {
-        return Some(false);
+        return Ok(false);
     }
     let mut i = same_count(a, b, 0, 0, ASCII);
     let mut j = i;
     loop {
         let x = Place::after(a, i);
         let y = Place::after(b, j);
-        if are_apart(&x, &y) {
-            return Some(false);
+        if x.is_apart_from(&y) {
+            return Ok(false);
         }
         if x.is_over() {
-            return Some(true);
+            return Ok(true);
         }
-        let n = shared(&x, &y)?;
+        let Some(n) = shared(&x, &y) else {
+            return Err((i, j));
+        };
         i = x.at + n;
         j = y.at + n;
     }
+}
+
+// Whether two labels are equal, where that can be told without the table.
+pub fn same_quick(a: &[u8], b: &[u8]) -> Option<bool>
+    ensures { IfSome result (λ answer. answer ≡ matches a.now b.now) }
+{
+    same_or_places(a, b).ok()
 }
 
 // ---- with the table
 
 // What is left of a label's compared form, byte by byte: the bytes of a folded character that are left, the first lowest, and what the
 // label gives from `at` on.
-#[derive(Drop)]
+#[derive(Clone, Copy)]
 pub struct Form<'a> {
     table: &'a Table,
     label: &'a [u8],
@@ -222,16 +274,23 @@ pub struct Form<'a> {
 }
 
 impl<'a> Form<'a> {
-    // The form of what is left from `at` on.
-    pub fn after(table: &'a Table, label: &'a [u8], at: usize) -> Form<'a>
-        ensures { form result.label.now result.at result.left ≡ form_from label.now at }
+    // The form of what is left from `at` on, where the bytes of `left` come first.
+    pub fn with_left(table: &'a Table, label: &'a [u8], at: usize, left: u64) -> Form<'a>
+        ensures { form result.label.now result.at result.left ≡ form label.now at left }
     {
         Form {
             table,
             label,
             at,
-            left: 0,
+            left,
         }
+    }
+
+    // The same with no such bytes.
+    pub fn after(table: &'a Table, label: &'a [u8], at: usize) -> Form<'a>
+        ensures { form result.label.now result.at result.left ≡ form_from label.now at }
+    {
+        Form::with_left(table, label, at, 0)
     }
 }
 
@@ -302,12 +361,12 @@ impl<'a> Iterator for Form<'a> {
     }
 }
 
-// Whether two labels are equal, with the table at hand.
-pub fn same_folded(table: &Table, a: &[u8], b: &[u8]) -> bool
-    ensures { result ≡ matches a.now b.now }
+// Whether what is left of two labels from `from` and `to` on compares equal.
+fn same_from(table: &Table, a: &[u8], b: &[u8], from: usize, to: usize) -> bool
+    ensures { result ≡ equals (form_from a.now from) (form_from b.now to) }
 {
-    let mut i = 0;
-    let mut j = 0;
+    let mut i = from;
+    let mut j = to;
     loop {
         let n = same_run(a, b, i, j);
         let x = Place::after(a, i + n);
@@ -331,12 +390,19 @@ pub fn same_folded(table: &Table, a: &[u8], b: &[u8]) -> bool
     }
 }
 
-// The same; the table is built here, so that no other call pays for its room.
-#[inline(never)]
-fn same_by_table(a: &[u8], b: &[u8]) -> bool
+// Whether two labels are equal, with the table at hand.
+pub fn same_folded(table: &Table, a: &[u8], b: &[u8]) -> bool
     ensures { result ≡ matches a.now b.now }
 {
-    same_folded(&Table::new(), a, b)
+    same_from(table, a, b, 0, 0)
+}
+
+// What `same_from` tells; the table is built here, so that no other call pays for its room.
+#[inline(never)]
+fn same_by_table(a: &[u8], b: &[u8], i: usize, j: usize) -> bool
+    ensures { result ≡ equals (form_from a.now i) (form_from b.now j) }
+{
+    same_from(&Table::new(), a, b, i, j)
 }
 
 // ----
@@ -345,8 +411,8 @@ fn same_by_table(a: &[u8], b: &[u8]) -> bool
 pub fn same_label(a: &[u8], b: &[u8]) -> bool
     ensures { result ≡ matches a.now b.now }
 {
-    match same_quick(a, b) {
-        Some(same) => same,
-        None => same_by_table(a, b),
+    match same_or_places(a, b) {
+        Ok(same) => same,
+        Err((i, j)) => same_by_table(a, b, i, j),
     }
 }

@@ -7,9 +7,11 @@ use mathlib.Core.Bool.{Bool, true, false, true≢false, ◌&&◌}
 use lib.ListN.{length, take, drop, length-drop}
 use lib.Seq.{drop-drop}
 use lib.Dec.{eqb}
+use Rattle.std.specs.Bool.{beq}
 use Rattle.scan.proofs.Test.{by}
-use Rattle.scan.specs.Reading.{run, leap}
+use Rattle.scan.specs.Reading.{run, past_strides, leap}
 use Rattle.scan.proofs.Leap.{leap_cons}
+use Rattle.scan.proofs.Strides.{told_apart, strides_through}
 use Rattle.block.specs.Reading.{blank_line, line_length, block_rest, block_length, part_length, block_here}
 
 pub line_some : (s : List ℕ) → 0 < length s → 0 < line_length s
@@ -21,6 +23,18 @@ pub line_fits : (s : List ℕ) → line_length s ≤ length s
 unfolding line_length
 line_fits [] = omega arith
 line_fits (b ∷ s) = by (eqb b 10) (λ e. rw (e, line_length) (omega arith)) (λ e. rw (e, line_length) (let h = line_fits s in omega arith))
+
+-- it is m, or where `same` is not so, it is not
+abbrev pub like : ℕ → Bool → ℕ → Bool
+like m same b = beq (eqb b m) same
+
+-- strides without an LF are within the line
+line_byte : (b : ℕ) (l : List ℕ) (k : ℕ) → like 10 false b ≡ true → k + line_length (b ∷ l) ≡ k + 1 + line_length l
+unfolding line_length
+line_byte b l k e = rw (told_apart (like 10 false) b 10 e refl, line_length) (omega arith)
+
+pub line_strides : (s : List ℕ) (at : ℕ) {i : ℕ} → i ≡ past_strides (like 10 false) s at → i + line_length (drop i s) ≡ at + line_length (drop at s)
+line_strides s at e = rw e (strides_through (like 10 false) (λ (l : List ℕ) (k : ℕ). k + line_length l) line_byte s at)
 
 -- the next line starts later
 pub line_less : (s : List ℕ) (i : ℕ) {n : ℕ} → i < length s → n ≡ i + line_length (drop i s) → length s - n < length s - i

@@ -1,6 +1,7 @@
 -- What is copied of w to a page from n on: as much as fits.
-use Rattle.std.proofs.Common.{ℕ, ◌+◌, ◌-◌, ◌≤◌, ◌<◌, ◌≡◌, ◌⊎◌, inl, inr, min, List, [], ◌++◌, length, take, drop, leb, refl, sym, ap, ◌∙◌, append_assoc, add-zero, arith}
-use Rattle.std.proofs.lemmas.List.{take-append-drop}
+use Rattle.std.proofs.Common.{ℕ, ◌+◌, ◌-◌, ◌≤◌, ◌<◌, ◌≡◌, ◌⊎◌, inl, inr, min, List, [], length, take, drop, get_or, set, length-set, leb, refl, sym, ap, ◌∙◌, append_assoc, add-zero, arith}
+use Rattle.std.proofs.lemmas.List.{take-append-drop, take_more, take_more_set}
+use Rattle.std.proofs.Math.Seq.{take-length}
 use Rattle.std.proofs.lemmas.List.Edits.{sets-eq}
 use borrow.Rule.Slice.PartMut.{put_mid}
 use borrow.Author.Tests.{leb-true, leb-false}
@@ -34,3 +35,14 @@ module _ (page w : List ℕ) (n : ℕ) {e : ℕ} (m : e ≡ min (length page) (n
 
   pub none_stored : e ≤ n → page ≡ sets page n w
   none_stored h = let z : sets page (n + 0) w ≡ page = rest_past page w n 0 page refl (ended 0 (omega arith)) in sym (rw add-zero at z)
+
+-- ---- one byte after the other
+module _ (to from : List ℕ) (i : ℕ) (same : length to ≡ length from) (copied : take i to ≡ take i from) where
+  pub one_more : i < length to → (length (set to i (get_or from i 0)) ≡ length from) × (take (i + 1) (set to i (get_or from i 0)) ≡ take (i + 1) from)
+  one_more h = (
+    length-set to i _ ∙ same,
+    take_more_set to i _ h ∙ rw copied refl ∙ sym (take_more from i 0 (omega arith)),
+  )
+
+  pub all_of : i ≡ length to → to ≡ from
+  all_of e = sym (take-length to) ∙ (ap (λ (k : ℕ). take k to) (sym e) ∙ copied ∙ ap (λ (k : ℕ). take k from) (e ∙ same)) ∙ take-length from

@@ -1,7 +1,7 @@
 // A page that may be too short for what is written to it: what does not fit is counted and not stored. An empty page only measures.
 #![tactic(auto)]
 
-ghost use Rattle.std.specs.Prelude.{◌≡◌, [], ◌∷◌};
+ghost use Rattle.std.specs.Prelude.{◌≡◌, [], ◌∷◌, length};
 ghost use Rattle.buffer.specs.Stored.{HasRoom, Grows};
 
 // A page, and the length of what is written to it so far.
@@ -9,6 +9,16 @@ ghost use Rattle.buffer.specs.Stored.{HasRoom, Grows};
 pub struct Page<'a> {
     pub bytes: &'a mut [u8],
     pub size: usize,
+}
+
+// Bytes over as many others. A loop, and not the library's copy: that calls memcpy or memmove, which whoever links the page writer may not have.
+fn copy(to: &mut [u8], from: &[u8])
+    requires { length to.old ≡ length from.now }
+    ensures { to.new ≡ from.now }
+{
+    for i in 0..to.len() {
+        to[i] = from[i];
+    }
 }
 
 impl<'a> Page<'a> {
@@ -42,7 +52,7 @@ impl<'a> Page<'a> {
         self.size = n + text.len();
         let end = self.bytes.len().min(self.size);
         if n < end {
-            self.bytes[n..end].copy_from_slice(&text[..end - n]);
+            copy(&mut self.bytes[n..end], &text[..end - n]);
         }
     }
 }

@@ -31,11 +31,11 @@ module _ (u : List ℕ) (count k e : ℕ) where
   abbrev place : ℕ
   place = closing_place u count k e
 
-  row_first : k < count → own < e → place ≡ own
+  pub row_first : k < count → own < e → place ≡ own
   unfolding closing_place
   row_first h l = rw (lt-ltb k count h, lt-ltb own e l) refl
 
-  end_first : k < count → e ≤ own → place ≡ e
+  pub end_first : k < count → e ≤ own → place ≡ e
   unfolding closing_place
   end_first h l = rw (lt-ltb k count h, le-ltb own e l) refl
 

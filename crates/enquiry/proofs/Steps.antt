@@ -66,7 +66,7 @@ module _ (T : Texts) (label : List ℕ) (at beside : Address) {e : Enquiry} (ans
     label_kept = refl;
   }
 
-  nothing_handed : {r : Refusal} → e ≡ Err r → Resolved T label at beside T label (n ∷ v ∷ x ∷ []) [] at
+  pub nothing_handed : {r : Refusal} → e ≡ Err r → Resolved T label at beside T label (n ∷ v ∷ x ∷ []) [] at
   nothing_handed {r} f = let (p, q) = empty T at beside r in resolved (rw f p) (rw f q)
 
   pub refused_part : ((d : Destination) → e ≡ Ok d → ⊥) → Resolved T label at beside T label (n ∷ v ∷ x ∷ []) [] at

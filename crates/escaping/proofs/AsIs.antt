@@ -3,15 +3,18 @@ use Prim.Native.Nat.{ℕ, zero, suc, ◌+◌, ◌-◌, ◌≤◌, ◌<◌}
 use native.Mathlib.Omega.{arith}
 use mathlib.Core.Path.{◌≡◌, refl, sym, ap, ◌∙◌}
 use mathlib.Core.List.{List, [], ◌∷◌, ◌++◌, flat_map}
-use mathlib.Core.Bool.{Bool, true, false, true≢false}
-use borrow.Author.Tests.{ne_eqb}
+use mathlib.Core.Bool.{Bool, true, false, true≢false, not, ◌||◌}
+use borrow.Author.Tests.{ne_eqb, not-true}
 use lib.ListN.{length, get_or, take, drop, length-drop}
 use lib.Seq.{drop-drop, get_or-drop}
-use Rattle.scan.proofs.Test.{by}
-use Rattle.scan.specs.Reading.{run, past}
-use Rattle.scan.proofs.Scan.{run_yes, run_no, run_fits}
+use lib.Dec.{eqb}
+use Rattle.scan.specs.Byte.{within}
+use Rattle.scan.proofs.Test.{by, neither}
+use Rattle.scan.specs.Reading.{run, past, past_strides}
+use Rattle.scan.proofs.Scan.{run_yes, run_no, run_fits, past_none}
+use Rattle.scan.proofs.Strides.{told_apart, past_through}
 use Rattle.escaping.specs.Escaping.{escaped}
-use Rattle.escaping.specs.Reading.{as_is, front, text_of}
+use Rattle.escaping.specs.Reading.{as_is, clear, front, text_of}
 use Rattle.escaping.proofs.Undone.{undone_byte, no_escape}
 
 -- ---- the run at the front of l, and what a list gives on the page
@@ -85,6 +88,23 @@ module _ (mark : ℕ) where
   pub front_inside : (s : List ℕ) (i : ℕ) {r : ℕ} → r ≡ past (as_is mark) s i → i < r → r ≤ length s
   unfolding past
   front_inside s i e h = omega (arith, run_fits (as_is mark) (drop i s), length-drop i s)
+
+  -- nothing to pass; p is what a call answered of the byte b
+  pub as_is_none : (s : List ℕ) (i : ℕ) {b : ℕ} {p : Bool} → b ≡ get_or s i 0 → p ≡ as_is mark b → not p ≡ true → i ≡ past (as_is mark) s i
+  as_is_none s i {b} {p} q e k = past_none (as_is mark) s i (ap (as_is mark) (sym q) ∙ sym e ∙ not-true p k)
+
+  clear_as_is : (b : ℕ) → clear mark b ≡ true → as_is mark b ≡ true
+  clear_as_is b e =
+      simp (
+        told_apart (clear mark) b 38 e refl,
+        told_apart (clear mark) b 60 e refl,
+        told_apart (clear mark) b 62 e refl,
+        told_apart (clear mark) b 34 e refl,
+        (neither (within 34 38 b || within 60 62 b) (eqb b mark) (not-true (within 34 38 b || within 60 62 b || eqb b mark) e)).1,
+      )
+
+  pub as_is_strides : (s : List ℕ) (at : ℕ) {i : ℕ} → i ≡ past_strides (clear mark) s at → past (as_is mark) s i ≡ past (as_is mark) s at
+  as_is_strides = past_through (clear mark) (as_is mark) clear_as_is
 
 -- in text
 pub no_backslash : (b : ℕ) → as_is 92 b ≡ true → b ≡ 92 → ⊥

@@ -1,7 +1,7 @@
 -- Text on the page, as it is computed.
 use Rattle.std.specs.Prelude.{ℕ, Bool, true, false, cond, not, ◌||◌, take, eqb}
 use mathlib.Core.List.{List, [], ◌∷◌, flat_map}
-use Rattle.scan.specs.Byte.{escapes}
+use Rattle.scan.specs.Byte.{escapes, within}
 use Rattle.scan.specs.Reading.{run}
 use Rattle.escaping.specs.Escaping.{escaped}
 
@@ -19,7 +19,11 @@ backslash s = cond (escapes s) 1 0
 abbrev pub as_is : ℕ → ℕ → Bool
 as_is mark b = not (eqb b 38 || eqb b 60 || eqb b 62 || eqb b 34 || eqb b mark)
 
--- those of them at the front of l
+-- those of them that lie outside two ranges: from 34 to 38, and from 60 to 62
+abbrev pub clear : ℕ → ℕ → Bool
+clear mark b = not (within 34 38 b || within 60 62 b || eqb b mark)
+
+-- the bytes as they are at the front of l
 abbrev pub front : ℕ → List ℕ → List ℕ
 front mark l = take (run (as_is mark) l) l
 

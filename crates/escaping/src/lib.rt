@@ -5,7 +5,7 @@ ghost use Rattle.std.specs.Prelude.{◌≡◌, length, drop, ◌+◌, ◌<◌};
 ghost use Rattle.scan.specs.Reading.{past};
 ghost use Rattle.buffer.specs.Stored.{HasRoom, Grows};
 ghost use Rattle.escaping.specs.Escaping.{escaped};
-ghost use Rattle.escaping.specs.Reading.{backslash, as_is, front, text_of};
+ghost use Rattle.escaping.specs.Reading.{backslash, as_is, clear, front, text_of};
 
 use buffer::Page;
 use scan::Class;
@@ -42,10 +42,35 @@ struct Plain {
 impl Class<u8> for Plain {
     ghost has = { λ c. as_is c.mark };
 
-    // None of the tests decides alone, so that many bytes are compared at once.
     fn holds(&self, b: u8) -> bool {
         !((b == b'&') | (b == b'<') | (b == b'>') | (b == b'"') | (b == self.mark))
     }
+}
+
+// Those of them that two ranges and `mark` leave, which are compared in fewer steps.
+#[derive(Drop)]
+struct Clear {
+    mark: u8,
+}
+
+impl Class<u8> for Clear {
+    ghost has = { λ c. clear c.mark };
+
+    fn holds(&self, b: u8) -> bool {
+        !((34 <= b) & (b <= 38) | (60 <= b) & (b <= 62) | (b == self.mark))
+    }
+}
+
+// The first place from `at` on where a byte that is escaped or `mark` stands; the end is one. Long runs are passed by strides.
+pub fn as_is_end(s: &[u8], at: usize, mark: u8) -> usize
+    ensures { result ≡ past (as_is mark) s.now at }
+{
+    let plain = Plain { mark };
+    if !plain.holds(scan::peek(s, at)) {
+        return at;
+    }
+    let near = scan::past_strides(s, at, &Clear { mark });
+    scan::past(s, near, &plain)
 }
 
 // Writes the bytes from `at` on up to the first that is escaped or is `mark`, and gives its place; the end is one.
@@ -54,7 +79,7 @@ pub fn put_run(page: &mut Page, s: &[u8], at: usize, mark: u8) -> usize
     ensures end { result ≡ past (as_is mark) s.now at }
     ensures grows { Grows page.old (front mark (drop at s.now)) page.new }
 {
-    let end = scan::past_after::<u8, Plain, 1>(s, at, &Plain { mark });
+    let end = as_is_end(s, at, mark);
     if at < end {
         page.put(&s[at..end]);
     }

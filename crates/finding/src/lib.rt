@@ -20,7 +20,7 @@ pub fn lookup<'a>(rows: &Arranged<'a>, label: &'a [u8]) -> Option<usize>
     ensures { result ≡ row_with rows.now.definitions.now label.now }
 {
     let sought = Sought::new(label);
-    let from = searching::window(rows, &sought);
+    let from = sought.window(rows);
     match searching::bound(rows, &sought, from) {
         Ok(at) => Some(rows.entry(at).row()),
         Err(_) => None,

@@ -10,7 +10,7 @@ ghost use Rattle.folding.specs.Word.{utf8_word, several_word, word_of};
 mod entries;
 
 // The table of folding. It is built at each call of `new`: call it once and lend what it gives.
-#[derive(Drop)]
+#[derive(Clone, Copy)]
 pub struct Table {
     entries: [u16; 1328],
     ghost whole: { entries ≡ table },

@@ -1,4 +1,4 @@
--- What holds of what a byte of a destination is in an href, by its cases.
+-- What a byte of a destination is in an href, and what holds of it, by its cases.
 use Prim.Native.Nat.{ℕ}
 use mathlib.Core.Path.{◌≡◌, sym, ◌∙◌}
 use mathlib.Core.List.{List, [], ◌∷◌}
@@ -9,6 +9,10 @@ use Rattle.scan.proofs.Test.{by, or_assoc, or_false}
 use Rattle.scan.specs.Ascii.{ascii}
 use Rattle.escaping.specs.Clean.{among}
 use Rattle.href.specs.Href.{stays, percent, href_byte}
+
+pub staying : (b : ℕ) → stays b ≡ true → href_byte b ≡ b ∷ []
+unfolding href_byte
+staying b e = simp e
 
 pub on_href : (P : List ℕ → Type 0) (b : ℕ) → (stays b ≡ true → P (b ∷ [])) → P (ascii "&amp;") → P (percent b) → P (href_byte b)
 unfolding href_byte

@@ -55,7 +55,9 @@ fn put_percent(page: &mut Page, b: u8)
     requires { HasRoom page.old (percent b) }
     ensures { Grows page.old (percent b) page.new }
 {
-    page.put(&[b'%', hex_digit(b / 16), hex_digit(b % 16)]);
+    page.put_byte(b'%');
+    page.put_byte(hex_digit(b / 16));
+    page.put_byte(hex_digit(b % 16));
 }
 
 // A byte of a destination.

@@ -5,8 +5,9 @@ mod arranged;
 mod keyed;
 
 ghost use Rattle.std.specs.Prelude.{◌≡◌, true, ◌+◌, ◌≤◌, ◌<◌, ◌^◌, length};
+ghost use Rattle.texts.specs.Texts.{texts};
 ghost use Rattle.row.specs.Listing.{texts_of};
-ghost use Rattle.index.specs.Index.{rows_limit, entry_of, row_in, key_in, base, entry_at, Stands, Covers};
+ghost use Rattle.index.specs.Index.{rows_limit, entry_of, row_in, key_in, base, entry_at, IsEntry, Stands, Covers};
 ghost use Rattle.index.specs.Rows.{IsEntryOf, BeforeIn, SortedIn};
 ghost use Rattle.indexing.specs.Building.{rows, Entries};
 ghost use Rattle.indexing.specs.Rows.{FollowsIn};
@@ -81,6 +82,26 @@ pub fn fill_entries<'a>(d: &Definitions<'a>, entries: &mut [u32; ROWS])
     }
 }
 
+// Whether a number is the entry of its row.
+pub fn is_entry<'a>(
+    note: &'a [u8],
+    sheet: &'a [u8],
+    table: &[u32],
+    count: usize,
+    entries: &[u32; ROWS],
+    e: u32,
+) -> bool
+    requires count_le_rows { count ≤ rows }
+    requires entries { Entries (texts note.now sheet.now) table.now count entries.now }
+    ensures { result ≡ true → IsEntry (texts note.now sheet.now) table.now count e }
+{
+    let k = Entry { number: e }.row();
+    if count <= k {
+        return false;
+    }
+    entries[k] == e
+}
+
 // Whether the row of an entry comes before that of another.
 pub fn comes_before<'a>(d: &Definitions<'a>, one: Entry, other: Entry) -> bool
     requires entry { IsEntryOf d.now one.number }
@@ -109,11 +130,8 @@ impl<'a> Keyed<'a> {
     pub fn is_entry(&self, e: Entry) -> bool
         ensures { result ≡ true → IsEntryOf self.now.definitions.now e.number }
     {
-        let k = e.row();
-        if self.definitions.count <= k {
-            return false;
-        }
-        self.entries[k] == e.number
+        let d = self.definitions;
+        is_entry(d.note, d.sheet, d.table, d.count, self.entries, e.number)
     }
 
     // Whether the number at place `p` is an entry, and comes after the one before it.

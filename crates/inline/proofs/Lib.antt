@@ -2,6 +2,7 @@ pub mod Turns
 pub mod Pieces
 pub mod PieceBounds
 pub mod TailBounds
+pub mod Plain
 pub mod Ticks
 pub mod CodeSpans
 pub mod Starting

@@ -10,7 +10,7 @@ ghost use Rattle.inline.specs.Rows.{from_note?, inline_row_of, full_row_of, coll
 ghost use Rattle.tail.specs.Ending.{shown, Sized};
 ghost use Rattle.link.specs.Reading.{sort_by, text_from, pair_row, Names};
 
-use row::{Definition, Definitions, Range};
+use row::{Definition, Range};
 use span::Span;
 use tail::{ReadTail, Way};
 
@@ -81,22 +81,22 @@ fn shortcut_row(image: bool, whole: Range, text: Range, k: usize, d: Definition)
 
 // The row of the link, or of the image, whose brackets stand at `opening` and `closing` of the paragraph, which starts at `start`. An
 // image opens with the `!`.
-pub fn pair_row<'a>(
+pub fn pair_row(
     start: usize,
     image: bool,
     opening: usize,
     closing: usize,
     t: ReadTail,
-    definitions: &Definitions<'a>,
+    definitions: &[u32],
+    count: usize,
 ) -> Span
-    requires names { Names definitions.now.count definitions.now.table.now t.way }
+    requires names { Names count definitions.now t.way }
     requires sized { Sized t }
-    requires small { Small (pair_row start (definitions_from definitions.now.table.now 0 definitions.now.count) image opening closing (shown (closing + 1) t)) }
-    ensures { result ≡ pair_row start (definitions_from definitions.now.table.now 0 definitions.now.count) image opening closing (shown (closing + 1) t) }
+    requires small { Small (pair_row start (definitions_from definitions.now 0 count) image opening closing (shown (closing + 1) t)) }
+    ensures { result ≡ pair_row start (definitions_from definitions.now 0 count) image opening closing (shown (closing + 1) t) }
 {
     let whole = Range::new(start + opening, start + (closing + 1 + t.length));
     let text = Range::new(start + text_from(image, opening), start + closing);
-    let table = definitions.table;
     match t.way {
         Way::Parts(destination, title) => inline_row(
             image,
@@ -105,8 +105,14 @@ pub fn pair_row<'a>(
             part_in_note(start, closing + 1, destination),
             part_in_note(start, closing + 1, title),
         ),
-        Way::Full(k) => full_row(image, whole, text, k, row::definition_at(table, k)),
-        Way::Collapsed(k) => collapsed_row(image, whole, text, k, row::definition_at(table, k)),
-        Way::Shortcut(k) => shortcut_row(image, whole, text, k, row::definition_at(table, k)),
+        Way::Full(k) => full_row(image, whole, text, k, row::definition_at(definitions, k)),
+        Way::Collapsed(k) => collapsed_row(
+            image,
+            whole,
+            text,
+            k,
+            row::definition_at(definitions, k),
+        ),
+        Way::Shortcut(k) => shortcut_row(image, whole, text, k, row::definition_at(definitions, k)),
     }
 }

@@ -9,6 +9,7 @@ ghost use Rattle.span.specs.Row.{whole_rows};
 ghost use Rattle.index.specs.Index.{Ready};
 ghost use Rattle.note.specs.Reading.{span_rows, first_deep};
 ghost use Rattle.walk.specs.Promise.{Remembers};
+ghost use Rattle.paragraph.specs.Promise.{Lent};
 ghost use Rattle.paragraphs.specs.Spans.{Defined};
 ghost use Rattle.notice.specs.Answers.{refusal_number, refusal_value, refusal_text};
 ghost use Rattle.notice.specs.declared.Refusal.TheVariants.{Deep as TooDeep};
@@ -16,7 +17,7 @@ ghost use Rattle.notice.specs.Reading.{of_fault, with_spans};
 ghost use Rattle.notice.specs.Promise.{Promise};
 ghost use Rattle.notice.specs.Spans.{with_count, SpansRead, JoinedRead, reading_in};
 
-use paragraph::{Deep, Lent};
+use paragraph::{Bracket, Deep};
 use row::Definitions;
 use texts::Fault;
 use walk::Paragraphs;
@@ -127,30 +128,65 @@ const MANY_INDEX: usize = buckets::BASE + MANY;
 const INDEX: usize = buckets::BASE + indexing::ROWS;
 
 // Counts the spans, and refuses where there are more than `rows`.
-fn count_spans<'a, const N: usize>(
+fn count_spans<'a>(
     definitions: &Definitions<'a>,
     paragraphs: &Paragraphs<'a>,
     index: &mut [u32],
     rows: usize,
-    lent: &mut Lent<N>,
+    stack: &mut [Bracket],
+    runs: &mut Option<[u32; ticks::LENGTHS]>,
+    marks: &mut [bool],
 ) -> Result<usize, Refusal>
     requires same_note { paragraphs.now.note.now ≡ definitions.now.note.now }
     requires defined { Defined (texts_of definitions.now) definitions.now.table.now definitions.now.count }
     requires ready { Ready (texts_of definitions.now) definitions.now.table.now definitions.now.count index.old }
-    requires note_in_bounds { length definitions.now.note.now < N }
-    requires size { N ≤ 65536 }
+    requires lent { Lent definitions.now.note.now stack.old marks.old }
     ensures counted { with_count definitions.now.count result ≡ with_spans definitions.now.count (first_deep (texts_of definitions.now)) (length (span_rows (texts_of definitions.now))) rows }
     ensures ready_2 { Ready (texts_of definitions.now) definitions.now.table.now definitions.now.count index.new }
 {
-    let walk = paragraphs::note_spans(definitions, index, paragraphs, &mut [], lent)?;
+    let none = &mut [];
+    let walk = paragraphs::note_spans(definitions, index, paragraphs, none, stack, runs, marks)?;
     if rows < walk.row {
         return Err(Refusal::FewSpans(walk.row));
     }
     Ok(walk.row)
 }
 
-// The answer after refusals 1 to 3 and 9, with a mark for each of N bytes. Where all rows surely fit, they are stored in the pass that finds them, and else
-// the spans are counted before.
+// The answer after refusals 1 to 3 and 9. Where all rows surely fit, they are stored in the pass that finds them, and else the spans are counted
+// before.
+fn answer_spans<'a>(
+    definitions: &Definitions<'a>,
+    paragraphs: &Paragraphs<'a>,
+    index: &mut [u32],
+    spans: &mut [u32],
+    stack: &mut [Bracket],
+    runs: &mut Option<[u32; ticks::LENGTHS]>,
+    marks: &mut [bool],
+) -> Result<Counts, Refusal>
+    requires same_note { paragraphs.now.note.now ≡ definitions.now.note.now }
+    requires defined { Defined (texts_of definitions.now) definitions.now.table.now definitions.now.count }
+    requires ready { Ready (texts_of definitions.now) definitions.now.table.now definitions.now.count index.old }
+    requires lent { Lent definitions.now.note.now stack.old marks.old }
+    ensures { SpansRead (texts_of definitions.now) definitions.now.count spans.old result spans.new }
+{
+    let rows = span::whole_rows(spans);
+    if !paragraphs::surely_fits(paragraphs, rows) {
+        // Nothing is read again where there is no row to store.
+        if count_spans(definitions, paragraphs, index, rows, stack, runs, marks)? == 0 {
+            return Ok(Counts {
+                definitions: definitions.count,
+                spans: 0,
+            });
+        }
+    }
+    let walk = paragraphs::note_spans(definitions, index, paragraphs, spans, stack, runs, marks)?;
+    Ok(Counts {
+        definitions: definitions.count,
+        spans: walk.row,
+    })
+}
+
+// The same with what is lent to each paragraph, made once for a note: a mark for each of N bytes, and for the brackets and the runs.
 fn with_marks<'a, const N: usize>(
     definitions: &Definitions<'a>,
     paragraphs: &Paragraphs<'a>,
@@ -164,22 +200,18 @@ fn with_marks<'a, const N: usize>(
     requires size { N ≤ 65536 }
     ensures { SpansRead (texts_of definitions.now) definitions.now.count spans.old result spans.new }
 {
-    let mut lent = Lent::<N>::new();
-    let rows = span::whole_rows(spans);
-    if !paragraphs::surely_fits(paragraphs, rows) {
-        // Nothing is read again where there is no row to store.
-        if count_spans(definitions, paragraphs, index, rows, &mut lent)? == 0 {
-            return Ok(Counts {
-                definitions: definitions.count,
-                spans: 0,
-            });
-        }
-    }
-    let walk = paragraphs::note_spans(definitions, index, paragraphs, spans, &mut lent)?;
-    Ok(Counts {
-        definitions: definitions.count,
-        spans: walk.row,
-    })
+    let mut stack = [Bracket { at: 0, line: 0 }; paragraph::DEPTH_LIMIT];
+    let mut runs = None;
+    let mut marks = [false; N];
+    answer_spans(
+        definitions,
+        paragraphs,
+        index,
+        spans,
+        &mut stack,
+        &mut runs,
+        &mut marks,
+    )
 }
 
 // The same with as many marks as the note asks for.

@@ -1,6 +1,5 @@
 -- The exported reader's promise and the reader's own.
-use Prim.Native.Nat.{ℕ, ◌<◌, ◌^◌}
-use native.Mathlib.Omega.{arith}
+use Prim.Native.Nat.{ℕ}
 use mathlib.Core.Path.{◌≡◌, refl, sym, ap, ◌∙◌}
 use mathlib.Core.List.{List, [], ◌∷◌}
 use lib.ListN.{get_or}
@@ -8,9 +7,7 @@ use Rattle.texts.specs.Texts.{Texts}
 use Rattle.row.specs.Row as definition_table
 use Rattle.span.specs.Row as span_table
 use Rattle.std.specs.Prelude.{Ok, Err}
-use Rattle.notice.specs.declared.Counts.{Counts}
-use Rattle.notice.specs.declared.Refusal.{Refusal}
-use Rattle.notice.specs.Answers.{Reading, refusal_number, refusal_value, refusal_text, number_of, value_of, named_of, definition_count, span_count, Answers}
+use Rattle.notice.specs.Answers.{Reading, number_of, value_of, named_of, Answers}
 use Rattle.notice.specs.Promise.{Promise}
 use Rattle.notice.proofs.Answers.{answers_iff}
 use Rattle.notice_c.specs.Read.{is_yes, reading, numbers_of, ReadPromise}

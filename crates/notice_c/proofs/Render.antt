@@ -1,6 +1,5 @@
 -- The exported page writer's promise and the page writer's own.
-use Prim.Native.Nat.{ℕ, ◌<◌, ◌^◌}
-use native.Mathlib.Omega.{arith}
+use Prim.Native.Nat.{ℕ}
 use mathlib.Core.Path.{◌≡◌, refl, sym, ap, ◌∙◌}
 use mathlib.Core.List.{List, [], ◌∷◌}
 use lib.ListN.{length, get_or}
@@ -8,9 +7,7 @@ use Rattle.texts.specs.Texts.{Texts}
 use Rattle.row.specs.Row as definition_table
 use Rattle.span.specs.Row as span_table
 use Rattle.std.specs.Prelude.{Ok, Err}
-use Rattle.rendering.specs.declared.Rendered.{Rendered}
-use Rattle.rendering.specs.declared.Refusal.{Refusal}
-use Rattle.rendering.specs.Answers.{Rendering, refusal_number, refusal_value, refusal_text, number_of, value_of, named_of, definition_count, span_count, page_length, Answers}
+use Rattle.rendering.specs.Answers.{Rendering, number_of, value_of, named_of, Answers}
 use Rattle.rendering.specs.Promise.{Promise}
 use Rattle.rendering.proofs.Answers.{answers_iff, promised}
 use Rattle.notice_c.specs.Read.{is_yes}

@@ -1,21 +1,21 @@
 -- The exported enquiry's promise and the enquiry's own.
-use Prim.Native.Nat.{ℕ, ◌-◌, ◌≤◌, ◌<◌, ◌^◌}
+use Prim.Native.Nat.{ℕ, zero, suc, ◌+◌, ◌-◌, ◌≤◌, ◌<◌, ◌^◌}
 use native.Mathlib.Omega.{arith}
 use mathlib.Core.Path.{◌≡◌, refl, sym, ap, ◌∙◌}
 use mathlib.Core.List.{List, [], ◌∷◌}
-use lib.ListN.{length, get_or, take, drop}
+use borrow.Author.Tests.{eq-eqb, ne_eqb}
+use lib.ListN.{length, get_or, take, drop, length-drop}
+use lib.Seq.{length-take-le}
 use Rattle.texts.specs.Texts.{Texts, text_of}
 use Rattle.row.specs.Row.{Listed}
 use Rattle.std.specs.Prelude.{Ok, Err}
-use Rattle.enquiry.specs.declared.Destination.{Destination}
-use Rattle.enquiry.specs.declared.Refusal.{Refusal}
 use Rattle.enquiry.specs.declared.Refusal.TheVariants.{Long, Bad, NotLabel, Undefined}
 use Rattle.enquiry.specs.Enquiry.{Enquiry, number_of, value_of, named_of, part_of, Address}
 use Rattle.enquiry.specs.Answers.{Due0, Answers, destination}
 use Rattle.enquiry.specs.Reading.{enquiry_of}
 use Rattle.enquiry.specs.Promise.{Resolved}
 use Rattle.enquiry.proofs.Answers.{determined, part_ordered, part_inside}
-use Rattle.notice_c.specs.Resolve.{destination_start, destination_end, numbers_of, ResolvePromise}
+use Rattle.notice_c.specs.Resolve.{destination_start, destination_end, start_by, numbers_of, ResolvePromise}
 
 -- every number is a 32-bit number
 pub small : (e : Enquiry) → number_of e < 2 ^ 32
@@ -44,16 +44,65 @@ places_in : (T : Texts) (label : List ℕ) (e : Enquiry) → e ≡ enquiry_of T 
 places_in T label (Ok d) q = (part_ordered T label q refl, part_inside T label q refl)
 places_in T label (Err r) q = (omega arith, omega arith)
 
--- what the enquiry answers makes the promise
-module _ {T : Texts} {label : List ℕ} {e : Enquiry} (q : e ≡ enquiry_of T label) {n v x : ℕ} (number : n ≡ number_of e) (value : v ≡ value_of e) (named : x ≡ named_of e) {s : ℕ × ℕ} where
-  kept : s ≡ (destination_start e, destination_end e) → ResolvePromise T label n T label (v ∷ s.0 ∷ s.1 ∷ x ∷ [])
-  kept es = record { answered = number ∙ ap number_of q; numbers = rw (value, named, es, ← q) refl; note_kept = refl; sheet_kept = refl; label_kept = refl }
+-- ---- the part's start and end, by the numbers beside it
+pub start_found : (n v : ℕ) → n ≡ 0 → v ≡ start_by n v
+start_found n v e = rw (eq-eqb n 0 e)
 
-  pub found_kept : {d : Destination} → e ≡ Ok d → s ≡ (d.start, d.end) → ResolvePromise T label n T label (v ∷ s.0 ∷ s.1 ∷ x ∷ [])
-  found_kept er es = kept (es ∙ rw er refl)
+pub start_none : (n v : ℕ) → (n ≡ 0 → ⊥) → 0 ≡ start_by n v
+start_none n v e = rw (ne_eqb n 0 e)
 
-  pub refusal_kept : {r : Refusal} → e ≡ Err r → s ≡ (0, 0) → ResolvePromise T label n T label (v ∷ s.0 ∷ s.1 ∷ x ∷ [])
-  refusal_kept er es = kept (es ∙ rw er refl)
+start_by_lem : (e : Enquiry) → start_by (number_of e) (value_of e) ≡ destination_start e
+start_by_lem (Ok d) = refl
+start_by_lem (Err (Long k n)) = refl
+start_by_lem (Err (Bad k p)) = refl
+start_by_lem (Err NotLabel) = refl
+start_by_lem (Err Undefined) = refl
+
+end_by : (T : Texts) (label : List ℕ) (e : Enquiry) → e ≡ enquiry_of T label → destination_start e + length (part_of T e) ≡ destination_end e
+end_by T label e q =
+    let (o, i) = places_in T label e q in
+    let a = destination_start e in
+    let z = destination_end e in
+    let l = length-take-le (z - a) (drop a (its_text T e)) (omega (arith, length-drop a (its_text T e))) in
+    rw (part_between T e) (omega arith)
+
+-- a text is no longer than the longer of the two
+in_either : (T : Texts) {n m : ℕ} → length T.note < m → length T.sheet < m → (k : ℕ) → n ≤ length (text_of T k) → n < m
+in_either T a b zero h = omega arith
+in_either T a b (suc k) h = omega arith
+
+-- what `enquiry::resolve` gives: the three numbers `triple`, and the part
+module _ (T : Texts) (label : List ℕ) {at beside place : Address} {T₁ : Texts} {label₁ triple part : List ℕ} (r : Resolved T label at beside T₁ label₁ triple part place) where
+  number_is : get_or triple 0 0 ≡ number_of (enquiry_of T label)
+  number_is = rw r.answered
+
+  value_is : get_or triple 1 0 ≡ value_of (enquiry_of T label)
+  value_is = rw r.answered
+
+  named_is : get_or triple 2 0 ≡ named_of (enquiry_of T label)
+  named_is = rw r.answered
+
+  pub number_small : get_or triple 0 0 < 2 ^ 32
+  number_small = rw number_is (small (enquiry_of T label))
+
+  module _ {start : ℕ} (started : start ≡ start_by (get_or triple 0 0) (get_or triple 1 0)) where
+    start_is : start ≡ destination_start (enquiry_of T label)
+    start_is = started ∙ rw (number_is, value_is) (start_by_lem (enquiry_of T label))
+
+    end_is : start + length part ≡ destination_end (enquiry_of T label)
+    end_is = rw (start_is, r.part_bytes) (end_by T label (enquiry_of T label) refl)
+
+    pub end_within : {m : ℕ} → length T.note < m → length T.sheet < m → start + length part < m
+    end_within a b = rw end_is (in_either T a b (named_of (enquiry_of T label)) (places_in T label (enquiry_of T label) refl).1)
+
+    pub resolve_kept : ResolvePromise T label (get_or triple 0 0) T label (get_or triple 1 0 ∷ start ∷ (start + length part) ∷ get_or triple 2 0 ∷ [])
+    resolve_kept = record {
+      answered = number_is;
+      numbers = rw (value_is, named_is, end_is, start_is);
+      note_kept = refl;
+      sheet_kept = refl;
+      label_kept = refl;
+    }
 
 module _ {T T' : Texts} {label label' answer : List ℕ} {n : ℕ} (p : ResolvePromise T label n T' label' answer) where
   -- the numbers in the law's terms

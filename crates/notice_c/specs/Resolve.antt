@@ -1,5 +1,5 @@
 -- What the exported enquiry promises: the enquiry's answer in numbers, and that it changes nothing else.
-use Rattle.std.specs.Prelude.{ℕ, ◌≡◌, List, [], ◌∷◌, Ok, Err}
+use Rattle.std.specs.Prelude.{ℕ, ◌≡◌, List, [], ◌∷◌, Ok, Err, cond, eqb}
 use Rattle.texts.specs.Texts.{Texts}
 use Rattle.enquiry.specs.Enquiry.{Enquiry, number_of, value_of, named_of}
 use Rattle.enquiry.specs.Reading.{enquiry_of}
@@ -12,6 +12,10 @@ destination_start (Err refusal) = 0
 abbrev pub destination_end : Enquiry → ℕ
 destination_end (Ok d) = d.end
 destination_end (Err refusal) = 0
+
+-- the start of the part, by the answer's number and value
+abbrev pub start_by : ℕ → ℕ → ℕ
+start_by number value = cond (eqb number 0) value 0
 
 -- the value ("its start or the table's value"), then the part, and the text that the answer names
 abbrev pub numbers_of : Enquiry → List ℕ

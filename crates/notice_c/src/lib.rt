@@ -4,8 +4,9 @@
 ghost use Rattle.texts.specs.Texts.{texts};
 ghost use Rattle.notice_c.specs.Read.{ReadPromise};
 ghost use Rattle.notice_c.specs.Render.{RenderPromise};
-ghost use Rattle.notice_c.specs.Resolve.{ResolvePromise};
+ghost use Rattle.notice_c.specs.Resolve.{ResolvePromise, start_by};
 ghost use Rattle.notice_c.specs.SameLabel.{SameLabelPromise};
+ghost use Rattle.std.specs.Prelude.{◌≡◌};
 
 use notice::Counts;
 use rendering::Rendered;
@@ -62,6 +63,13 @@ pub extern "C" fn notice_render<'a>(
     }
 }
 
+// Where the part starts that the enquiry hands back beside its answer's number and value; 0 on a refusal.
+fn part_start(number: u64, value: u64) -> u64
+    ensures { result ≡ start_by number value }
+{
+    if number == 0 { value } else { 0 }
+}
+
 // The destination that the note and the sheet give to a label. The answer's number is returned; its value, the destination's start
 // and end, and the text in which they lie are stored.
 #[unsafe(no_mangle)]
@@ -73,13 +81,13 @@ pub extern "C" fn notice_resolve<'a>(
 ) -> u32
     ensures { ResolvePromise (texts note.now sheet.now) label.now result (texts note.exit.now sheet.exit.now) label.exit.now answer.new }
 {
-    let found = enquiry::enquire(note, sheet, label);
-    let (start, end) = match found {
-        Ok(destination) => (destination.start as u64, destination.end as u64),
-        Err(_) => (0, 0),
-    };
-    *answer = [enquiry::value(found), start, end, enquiry::named(found)];
-    enquiry::number(found) as u32
+    let mut numbers = [0; 3];
+    let part = enquiry::resolve(note, sheet, label, &mut numbers);
+    let [number, value, text] = numbers;
+    let start = part_start(number, value);
+    let end = start + part.len() as u64;
+    *answer = [value, start, end, text];
+    number as u32
 }
 
 // Whether two labels are equal, each given without its brackets: 1 where they are, and else 0.

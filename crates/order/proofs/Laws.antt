@@ -29,10 +29,10 @@ as_std (x ∷ s) (y ∷ t) = ap (ordering_then (nat_cmp x y)) (as_std s t)
 total : IsTotalOrder backwards
 total = lists_total (back_total nat_cmp_total)
 
-order_refl : (s : List ℕ) → order s s ≡ Equal
+pub order_refl : (s : List ℕ) → order s s ≡ Equal
 order_refl s = as_std s s ∙ tied_itself total s
 
-order_less : (s t u : List ℕ) → order s t ≡ Less → order t u ≡ Less → order s u ≡ Less
+pub order_less : (s t u : List ℕ) → order s t ≡ Less → order t u ≡ Less → order s u ≡ Less
 order_less s t u e f = as_std s u ∙ total.trans u t s (sym (as_std t u) ∙ f) (sym (as_std s t) ∙ e)
 
 -- a tie is one at the heads, and after them
@@ -41,7 +41,7 @@ tie Less p e = grind (arith, e)
 tie Equal p e = (refl, e)
 tie Greater p e = grind (arith, e)
 
-order_equal : (s t : List ℕ) → order s t ≡ Equal → s ≡ t
+pub order_equal : (s t : List ℕ) → order s t ≡ Equal → s ≡ t
 unfolding order
 order_equal [] [] e = refl
 order_equal [] (y ∷ t) e = grind (arith, e)

@@ -1,11 +1,11 @@
 -- The spans so far and the brackets that are open, by the bytes that were passed: no more than the paragraph can have at the most.
 use Rattle.std.specs.Prelude.{None, Option, Some}
-use Prim.Native.Nat.{ℕ, suc, ◌+◌, ◌-◌, ◌≤◌, ◌<◌}
+use Prim.Native.Nat.{ℕ, ◌+◌, ◌-◌, ◌≤◌, ◌<◌}
 use native.Mathlib.Omega.{arith}
 use mathlib.Core.Path.{◌≡◌, refl, sym, ap, ◌∙◌}
-use mathlib.Core.List.{List, [], ◌∷◌, tail}
-use mathlib.Core.Bool.{Bool, true, false, true≢false, not, ◌&&◌, ◌||◌}
-use borrow.Author.Tests.{eq-eqb, ne_eqb, eqb-true, eqb-false}
+use mathlib.Core.List.{List}
+use mathlib.Core.Bool.{Bool, true, false, true≢false, not}
+use borrow.Author.Tests.{ne_eqb, eqb-true, eqb-false}
 use lib.Dec.{eqb}
 use lib.ListN.{length, get_or, drop}
 use lib.Seq.{get_or-drop}
@@ -13,7 +13,7 @@ use native.Mathlib.Nat.{add-zero}
 use Rattle.scan.proofs.Test.{by, and_left}
 use Rattle.scan.specs.Byte.{punctuation, escapes}
 use Rattle.scan.specs.Reading.{run}
-use Rattle.marking.specs.Marking.{Role, nothing, opening, closing, role, Kind, escape, plain, Piece}
+use Rattle.marking.specs.Marking.{nothing, role, plain, Piece}
 use Rattle.marking.specs.Reading.{is_code}
 use Rattle.inline.specs.Pieces.{backtick, image_opens, Backticks}
 use Rattle.inline.specs.ReadingPieces.{piece, piece_from, span_or_text, closing_run}
@@ -21,7 +21,7 @@ use Rattle.inline.proofs.PieceBounds.{some_run}
 use Rattle.inline.proofs.Ticks.{tick, ticks_in, ticks_end}
 use Rattle.inline.proofs.CodeSpans.{closing_run_iff}
 use Rattle.inline.proofs.Turns.{from_escape, from_backticks}
-use Rattle.inline.proofs.Pieces.{image_bytes, at_open, at_image, at_close, at_plain}
+use Rattle.inline.proofs.Pieces.{image_bytes, at_plain}
 use mathlib.Core.Logic.{inl, inr}
 use Rattle.scan.proofs.Scan.{peek_inside}
 use Rattle.scan.proofs.Every.{run_iff}

@@ -17,7 +17,7 @@ use Rattle.scan.specs.Byte.{escapes}
 use Rattle.scan.specs.Reading.{run}
 use Rattle.marking.specs.Marking.{Sort, Role, nothing, closing, role, Piece}
 use Rattle.marking.specs.Reading.{alone, sort_of, found_by, stack_by}
-use Rattle.marking.specs.ReadingSpans.{spans, scan_found, too_deep, over}
+use Rattle.marking.specs.ReadingSpans.{scan_found, too_deep, over}
 use Rattle.marking.proofs.Finish.{overs_deep}
 use Rattle.row.specs.declared.Definition.{Definition}
 use Rattle.row.specs.Row.{range}

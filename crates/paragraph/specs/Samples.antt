@@ -1,5 +1,5 @@
 -- The brackets that are open, by computation.
-use Rattle.std.specs.Prelude.{ℕ, ◌≡◌, refl, List, [], ◌∷◌, None}
+use Rattle.std.specs.Prelude.{◌≡◌, refl, List, [], ◌∷◌, None}
 use Rattle.line.specs.Promise.{none}
 use Rattle.step.specs.declared.Walk.{Walk}
 use Rattle.paragraph.specs.declared.Bracket.{Bracket}

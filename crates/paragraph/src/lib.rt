@@ -1,7 +1,7 @@
 // The spans of one paragraph, read from left to right.
 #![tactic(auto)]
 
-ghost use Rattle.std.specs.Prelude.{◌≡◌, ◌<◌, length};
+ghost use Rattle.std.specs.Prelude.{◌≡◌};
 ghost use Rattle.row.specs.First.{bytes_of};
 ghost use Rattle.row.specs.Row.{range};
 ghost use Rattle.index.specs.Rows.{ReadyFor};
@@ -10,7 +10,7 @@ ghost use Rattle.tail.specs.Ending.{all_labels};
 ghost use Rattle.span.specs.Row.{whole_rows};
 ghost use Rattle.step.specs.Reading.{all_definitions};
 ghost use Rattle.step.specs.Promise.{Bounds, Lined, lined};
-ghost use Rattle.paragraph.specs.Promise.{cleared, opened, pushed, Room, Waits, Closing, Brackets, Lies, Reads};
+ghost use Rattle.paragraph.specs.Promise.{opened, pushed, Room, Waits, Closing, Brackets, Lies, Lent, Reads};
 
 use row::Definitions;
 use step::Walk;
@@ -23,26 +23,6 @@ pub const DEPTH_LIMIT: usize = 1024;
 pub struct Bracket {
     pub at: u32,
     pub line: u32,
-}
-
-// What is lent to the reading of paragraphs, to be written in: what it holds is of no account. The stack has the brackets that are open.
-#[derive(Drop)]
-pub struct Lent<const MARKS: usize> {
-    pub stack: [Bracket; DEPTH_LIMIT],
-    pub runs: Option<[u32; ticks::LENGTHS]>,
-    pub marks: [bool; MARKS],
-}
-
-impl<const MARKS: usize> Lent<MARKS> {
-    pub fn new() -> Lent<MARKS>
-        ensures { result ≡ cleared MARKS }
-    {
-        Lent {
-            stack: [Bracket { at: 0, line: 0 }; DEPTH_LIMIT],
-            runs: None,
-            marks: [false; MARKS],
-        }
-    }
 }
 
 // The place in the note of the first bracket too many.
@@ -103,27 +83,29 @@ fn close_bracket<'a>(
 }
 
 // The spans of the paragraph that stands in the note from `start` to `end`: their rows go into `spans` from the row of `from` on,
-// as far as they fit. `index` is lent for an index of the definitions. One of the marks says that nothing of this paragraph stands there yet;
-// of the stack only what has been put on it is read.
-pub fn read_paragraph<'a, const MARKS: usize>(
+// as far as they fit. `index` is lent for an index of the definitions. `stack`, `runs` and `marks` are lent to be written in: what they hold is
+// of no account. One of the marks says that nothing of this paragraph stands there yet; of the stack only what has been put on it is read.
+pub fn read_paragraph<'a>(
     start: usize,
     end: usize,
     definitions: &Definitions<'a>,
     index: &mut [u32],
     spans: &mut [u32],
     from: Walk,
-    lent: &mut Lent<MARKS>,
+    stack: &mut [Bracket],
+    runs: &mut Option<[u32; ticks::LENGTHS]>,
+    marks: &mut [bool],
 ) -> Result<Walk, Deep>
     requires lies { Lies definitions.now.note.now start end definitions.now.count from }
     requires indexed { ReadyFor definitions.now index.old }
-    requires bytes { length definitions.now.note.now < MARKS }
+    requires lent { Lent definitions.now.note.now stack.old marks.old }
     ensures reads { Reads definitions.now.note.now start (bytes_of definitions.now.note.now (range start end)) (all_labels definitions.now) (all_definitions definitions.now) from.row spans.old result spans.new }
     ensures indexed_2 { ReadyFor definitions.now index.new }
 {
     let note = definitions.note;
     let p = &note[start..end];
-    lent.runs = None;
-    lent.marks[p.len()] = false;
+    ticks::forget(runs);
+    marks[p.len()] = false;
     let mut w = step::afresh(from);
     while w.at < p.len() {
         if let Some(next) = step::opening_end(p, w.at) {
@@ -132,20 +114,11 @@ pub fn read_paragraph<'a, const MARKS: usize>(
                     place: start + (next - 1),
                 });
             }
-            w = open_bracket(note, start, spans, w, next, &mut lent.stack);
+            w = open_bracket(note, start, spans, w, next, stack);
         } else if (p[w.at] == 93) & (0 < w.depth) {
-            w = close_bracket(
-                p,
-                start,
-                definitions,
-                index,
-                spans,
-                w,
-                &lent.stack,
-                &mut lent.marks,
-            );
+            w = close_bracket(p, start, definitions, index, spans, w, stack, marks);
         } else {
-            w = step::pass_piece(p, start, note, spans, w, &mut lent.runs);
+            w = step::pass_piece(p, start, note, spans, w, runs);
         }
         w.at = inline::plain_end(p, w.at);
     }

@@ -2,7 +2,7 @@
 use Rattle.std.specs.Prelude.{Option as Found, Some, None, IsSome}
 use Prim.Native.Nat.{ℕ, ◌+◌, ◌<◌}
 use native.Mathlib.Omega.{arith}
-use mathlib.Core.Path.{◌≡◌, refl, sym, ◌∙◌}
+use mathlib.Core.Path.{◌≡◌, refl}
 use mathlib.Core.List.{List, []}
 use Rattle.walk.specs.declared.Paragraph.{Paragraph}
 use Rattle.walk.specs.Reading.{paragraphs_from, from}

@@ -1,14 +1,14 @@
 -- What the paragraphs passed and those left can have at the most comes to the whole.
-use Prim.Native.Nat.{ℕ, ◌+◌, ◌-◌, ◌≤◌, ◌<◌}
+use Prim.Native.Nat.{ℕ, ◌+◌, ◌-◌, ◌≤◌}
 use native.Mathlib.Omega.{arith}
-use mathlib.Core.Path.{◌≡◌, refl, ap}
+use mathlib.Core.Path.{◌≡◌, ap}
 use mathlib.Core.Bool.{Bool, true, false, ◌&&◌}
 use mathlib.Core.List.{List, [], ◌∷◌}
 use borrow.Author.Tests.{leb-true, ltb-true}
 use lib.Dec.{leb, ltb, eqb}
 use lib.ListN.{length, get_or, drop, length-drop}
 use lib.Seq.{length-take-le}
-use Rattle.scan.proofs.Test.{by, and_left, and_right}
+use Rattle.scan.proofs.Test.{and_left, and_right}
 use Rattle.definition.specs.Reading.{paragraphs}
 use Rattle.row.specs.Row.{range}
 use Rattle.row.specs.First.{bytes_of}

@@ -1,6 +1,6 @@
 -- The turns of a loop that reads a note's paragraphs one after the other.
-use Rattle.std.specs.Prelude.{Option as Found, Some, None, Result, Ok, Err}
-use Prim.Native.Nat.{ℕ, ◌+◌, ◌-◌, ◌≤◌, ◌<◌, ◌^◌}
+use Rattle.std.specs.Prelude.{Result, Ok, Err}
+use Prim.Native.Nat.{ℕ, ◌+◌, ◌-◌, ◌≤◌}
 use native.Mathlib.Omega.{arith}
 use mathlib.Core.Path.{◌≡◌, refl, sym, ap, ◌∙◌, subst}
 use mathlib.Core.Option.{Option, none, some}
@@ -16,9 +16,8 @@ use Rattle.row.specs.First.{bytes_of, labels_of}
 use Rattle.row.specs.Reading.{definitions_from}
 use Rattle.joined.specs.Reading.{joined}
 use Rattle.joined.proofs.Few.{few_joined}
-use Rattle.walk.specs.declared.Paragraph.{Paragraph}
-use Rattle.walk.specs.Reading.{paragraphs_from, from}
-use Rattle.walk.specs.Promise.{FirstParagraph, IsParagraph, Remembers}
+use Rattle.walk.specs.Reading.{paragraphs_from}
+use Rattle.walk.specs.Promise.{FirstParagraph}
 use Rattle.walk.proofs.Whole.{all_paragraphs}
 use Rattle.span.specs.declared.Span.{Span}
 use Rattle.span.specs.Row.{numbers, filled}

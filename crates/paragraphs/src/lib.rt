@@ -4,9 +4,10 @@
 ghost use Rattle.std.specs.Prelude.{◌≡◌, true, ◌<◌, ◌^◌, length};
 ghost use Rattle.row.specs.Listing.{texts_of};
 ghost use Rattle.index.specs.Rows.{ReadyFor};
+ghost use Rattle.paragraph.specs.Promise.{Lent};
 ghost use Rattle.paragraphs.specs.Spans.{Defined, NoteMarked, Surely};
 
-use paragraph::{Deep, Lent};
+use paragraph::{Bracket, Deep};
 use row::Definitions;
 use step::Walk;
 use walk::{Paragraph, Paragraphs};
@@ -30,18 +31,19 @@ pub fn surely_fits<'a>(paragraphs: &Paragraphs<'a>, rows: usize) -> bool
 }
 
 // The spans of the note's paragraphs: stores their rows, as many as fit, and counts them; or the place of the first bracket too many.
-pub fn note_spans<'a, const MARKS: usize>(
+pub fn note_spans<'a>(
     definitions: &Definitions<'a>,
     index: &mut [u32],
     paragraphs: &Paragraphs<'a>,
     spans: &mut [u32],
-    lent: &mut Lent<MARKS>,
+    stack: &mut [Bracket],
+    runs: &mut Option<[u32; ticks::LENGTHS]>,
+    marks: &mut [bool],
 ) -> Result<Walk, Deep>
     requires same_note { paragraphs.now.note.now ≡ definitions.now.note.now }
     requires defined { Defined (texts_of definitions.now) definitions.now.table.now definitions.now.count }
     requires indexed { ReadyFor definitions.now index.old }
-    requires bytes { length definitions.now.note.now < MARKS }
-    requires size { MARKS < 2 ^ 62 }
+    requires lent { Lent definitions.now.note.now stack.old marks.old }
     ensures note_marked { NoteMarked (texts_of definitions.now) spans.old result spans.new }
     ensures indexed_2 { ReadyFor definitions.now index.new }
 {
@@ -49,7 +51,17 @@ pub fn note_spans<'a, const MARKS: usize>(
     let mut w = Walk::first();
     for k in 0..paragraphs.count {
         let Paragraph { start, end, next } = paragraphs.next(k, at).unwrap();
-        w = paragraph::read_paragraph(start, end, definitions, index, spans, w, lent)?;
+        w = paragraph::read_paragraph(
+            start,
+            end,
+            definitions,
+            index,
+            spans,
+            w,
+            stack,
+            runs,
+            marks,
+        )?;
         at = next;
     }
     Ok(w)

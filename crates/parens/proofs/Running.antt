@@ -97,7 +97,7 @@ open_here s at i inside depth u r h g =
 
 -- ---- the run that is given up at a mark is judged as the whole one
 module _ (s : List ℕ) (m : List Bool) (at : ℕ) (t : Marks s 0 m) where
-  given_up : (i : ℕ) (inside : Bool) (depth : ℕ) → Reached s at i inside depth → i < length s → halts depth (get_or s i 0) inside ≡ false → get_or m i false ≡ true
+  pub given_up : (i : ℕ) (inside : Bool) (depth : ℕ) → Reached s at i inside depth → i < length s → halts depth (get_or s i 0) inside ≡ false → get_or m i false ≡ true
       → judged at (record { end = i; depth = 1 }) ≡ judged at (raw_run (drop at s) at)
   given_up i inside depth r h g e = sym (left at i 1 (omega arith)) ∙ open_here s at i inside depth (sym (t.marked i (omega arith) h) ∙ e) r h g
 

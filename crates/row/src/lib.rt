@@ -191,7 +191,7 @@ fn lookup_bytes<'a>(d: &Definitions<'a>, label: &[u8]) -> Option<usize>
         loop {
             let x = Place::after(own, i);
             let y = Place::after(label, j);
-            if alike::are_apart(&x, &y) {
+            if x.is_apart_from(&y) {
                 k += 1;
                 continue 'rows;
             }

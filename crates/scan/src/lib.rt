@@ -93,7 +93,8 @@ fn all_pass<T: Copy, C: Class<T>>(s: &[T], class: &C) -> bool
     all
 }
 
-// Past the whole strides of sixteen items from `at` on that all pass.
+// Past the whole strides of sixteen items from `at` on that all pass. Out of line, so that what calls it stays short: most runs end before.
+#[inline(never)]
 pub fn past_strides<T: Copy, C: Class<T>>(s: &[T], at: usize, class: &C) -> usize
     ensures { result ≡ past_strides (C.has class.now) s.now at }
 {

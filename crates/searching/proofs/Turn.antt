@@ -74,18 +74,18 @@ module _ {T : Texts} {t : List ℕ} {count : ℕ} {index c : List ℕ} {lo hi : 
   narrow_back mid g h n = let i = w.inside in record { ordered = g; inside = omega arith; front = w.front; back = λ k q. n q }
 
   -- it is one place
-  module _ (h : hi ≤ lo) {same : Bool} (s : Seen T t count index c hi same) where
-    closed : Window T t count index c lo lo
-    closed = let o = w.ordered in let z : hi ≡ lo = omega arith in rw z at w
+  pub closed : hi ≤ lo → Window T t count index c lo lo
+  closed h = let o = w.ordered in let z : hi ≡ lo = omega arith in rw z at w
 
+  module _ (h : hi ≤ lo) {same : Bool} (s : Seen T t count index c hi same) where
     seen : Seen T t count index c lo same
     seen = let o = w.ordered in let z : hi ≡ lo = omega arith in rw z at s
 
     pub found : same ≡ true → Found T t count index c lo
-    found e = record { window = closed; inside = (seen.hit e).0; same = (seen.hit e).1 }
+    found e = record { window = closed h; inside = (seen.hit e).0; same = (seen.hit e).1 }
 
     pub missing : same ≡ false → Missing T t count index c lo
-    missing e = record { window = closed; other = seen.miss e }
+    missing e = record { window = closed h; other = seen.miss e }
 
 -- ---- what the keys at a window's ends show
 module _ {T : Texts} {t : List ℕ} {count : ℕ} {index : List ℕ} (s : Sorted T t count index) (c : List ℕ) {h e g : ℕ} (eh : h ≡ key c) where

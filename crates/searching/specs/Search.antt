@@ -4,7 +4,7 @@ use Rattle.texts.specs.Texts.{Texts}
 use Rattle.matching.specs.Reading.{compared}
 use Rattle.order.specs.Order.{rank}
 use Rattle.row.specs.Listing.{texts_of}
-use Rattle.index.specs.Index.{form_of, row_at, Front, Back, Window, Found, Missing}
+use Rattle.index.specs.Index.{form_of, row_at, Back, Window, Found, Missing}
 use Rattle.indexing.specs.declared.arranged.Arranged.{Arranged}
 use Rattle.searching.specs.declared.sought.Sought.{Sought}
 use Rattle.std.specs.declared.cmp.Ordering.{Ordering}
@@ -22,10 +22,6 @@ module _ (rows : Arranged) (sought : Sought) where
   -- how the row at place p stands to the label
   abbrev pub rank_at : ℕ → Ordering
   rank_at p = rank (form_of T t (row_at rows.index.now p)) form
-
-  -- what stands just before the place lo is less
-  abbrev pub FrontAt : ℕ → Type 0
-  FrontAt = Front T t rows.index.now form
 
   -- what stands at the place hi is greater
   abbrev pub BackAt : ℕ → Type 0

@@ -4,10 +4,13 @@
 mod sought;
 
 ghost use Rattle.std.specs.Prelude.{◌≡◌, true, ◌≤◌, ◌<◌, IfOk, IfErr};
-ghost use Rattle.matching.specs.Reading.{matches};
-ghost use Rattle.searching.specs.Search.{rank_at, FrontAt, BackAt, WindowAt, FoundAt, MissingAt};
+ghost use Rattle.texts.specs.Texts.{texts};
+ghost use Rattle.matching.specs.Reading.{compared, matches};
+ghost use Rattle.order.specs.Order.{key};
+ghost use Rattle.index.specs.Index.{key_in, entry_at, Sorted, Front, Back, Window};
+ghost use Rattle.searching.specs.Search.{rank_at, BackAt, WindowAt, FoundAt, MissingAt};
 
-use indexing::Arranged;
+use indexing::{Arranged, Entry};
 pub use sought::Sought;
 use std::cmp::Ordering;
 
@@ -26,6 +29,16 @@ impl<'a> Sought<'a> {
             label,
             key: ranking::key_of(label),
         }
+    }
+
+    // The places where the label can stand.
+    pub fn window(&self, rows: &Arranged<'a>) -> Places
+        ensures window { WindowAt rows.now self.now result.lo result.hi }
+        ensures back { BackAt rows.now self.now result.hi }
+    {
+        let d = rows.definitions;
+        let Sought { label, key, .. } = *self;
+        window(d.note, d.sheet, d.table, d.count, rows.index, label, key)
     }
 }
 
@@ -83,25 +96,66 @@ pub fn bound<'a>(rows: &Arranged<'a>, sought: &Sought<'a>, from: Places) -> Resu
     if same { Ok(lo) } else { Err(lo) }
 }
 
-// Whether the keys show that what stands just before `lo` is less than the label.
-fn front_is_less<'a>(rows: &Arranged<'a>, sought: &Sought<'a>, lo: usize) -> bool
-    requires { lo ≤ rows.now.definitions.now.count }
-    ensures { result ≡ true → FrontAt rows.now sought.now lo }
+// The key of the row at place `p`.
+pub fn key_at<'a>(
+    note: &'a [u8],
+    sheet: &'a [u8],
+    table: &[u32],
+    count: usize,
+    index: &[u32],
+    p: usize,
+) -> u32
+    requires sorted { Sorted (texts note.now sheet.now) table.now count index.now }
+    requires p_lt_count { p < count }
+    ensures { result ≡ key_in (entry_at index.now p) }
+{
+    let e = Entry {
+        number: index[buckets::BASE + p],
+    };
+    e.key()
+}
+
+// Whether the keys show that what stands just before `lo` is less than `label`, whose key is `h`.
+fn front_is_less<'a>(
+    note: &'a [u8],
+    sheet: &'a [u8],
+    table: &[u32],
+    count: usize,
+    index: &[u32],
+    label: &[u8],
+    h: u32,
+    lo: usize,
+) -> bool
+    requires sorted { Sorted (texts note.now sheet.now) table.now count index.now }
+    requires h_value { h ≡ key (compared label.now) }
+    requires lo_le_count { lo ≤ count }
+    ensures { result ≡ true → Front (texts note.now sheet.now) table.now index.now (compared label.now) lo }
 {
     if lo == 0 {
         return true;
     }
-    rows.entry(lo - 1).key() < sought.key
+    key_at(note, sheet, table, count, index, lo - 1) < h
 }
 
-// Whether the keys show that what stands at `hi` is greater than the label.
-fn back_is_greater<'a>(rows: &Arranged<'a>, sought: &Sought<'a>, hi: usize) -> bool
-    ensures { result ≡ true → BackAt rows.now sought.now hi }
+// Whether the keys show that what stands at `hi` is greater than `label`, whose key is `h`.
+fn back_is_greater<'a>(
+    note: &'a [u8],
+    sheet: &'a [u8],
+    table: &[u32],
+    count: usize,
+    index: &[u32],
+    label: &[u8],
+    h: u32,
+    hi: usize,
+) -> bool
+    requires sorted { Sorted (texts note.now sheet.now) table.now count index.now }
+    requires h_value { h ≡ key (compared label.now) }
+    ensures { result ≡ true → Back (texts note.now sheet.now) table.now count index.now (compared label.now) hi }
 {
-    if rows.definitions.count <= hi {
+    if count <= hi {
         return true;
     }
-    sought.key < rows.entry(hi).key()
+    h < key_at(note, sheet, table, count, index, hi)
 }
 
 // Where the bucket before this one ends.
@@ -112,23 +166,32 @@ fn bucket_start(index: &[u32], b: usize) -> usize {
     buckets::number_at(index, b) as usize
 }
 
-// The places where the label can stand: those of its bucket, where the keys bear it out.
-pub fn window<'a>(rows: &Arranged<'a>, sought: &Sought<'a>) -> Places
-    ensures window { WindowAt rows.now sought.now result.lo result.hi }
-    ensures back { BackAt rows.now sought.now result.hi }
+// The places where `label`, whose key is `h`, can stand: those of its bucket, where the keys bear it out.
+pub fn window<'a>(
+    note: &'a [u8],
+    sheet: &'a [u8],
+    table: &[u32],
+    count: usize,
+    index: &[u32],
+    label: &[u8],
+    h: u32,
+) -> Places
+    requires sorted { Sorted (texts note.now sheet.now) table.now count index.now }
+    requires h_value { h ≡ key (compared label.now) }
+    ensures window { Window (texts note.now sheet.now) table.now count index.now (compared label.now) result.lo result.hi }
+    ensures back { Back (texts note.now sheet.now) table.now count index.now (compared label.now) result.hi }
 {
-    let b = (sought.key / 128) as usize;
-    let lo = bucket_start(rows.index, b);
-    let hi = bucket_start(rows.index, b + 1);
-    let count = rows.definitions.count;
+    let b = (h / 128) as usize;
+    let lo = bucket_start(index, b);
+    let hi = bucket_start(index, b + 1);
     let all = Places { lo: 0, hi: count };
     if (hi < lo) | (count < hi) {
         return all;
     }
-    if !front_is_less(rows, sought, lo) {
+    if !front_is_less(note, sheet, table, count, index, label, h, lo) {
         return all;
     }
-    if !back_is_greater(rows, sought, hi) {
+    if !back_is_greater(note, sheet, table, count, index, label, h, hi) {
         return all;
     }
     Places { lo, hi }

@@ -161,8 +161,9 @@ pub fn close_pair<'a>(
     let Some(t) = tail_at(p, from, w.at, definitions, index, marks) else {
         return v;
     };
-    small_numbers(definitions.table);
-    let row = link::pair_row(start, image, opening, w.at, t, definitions);
+    let d = definitions;
+    small_numbers(d.table);
+    let row = link::pair_row(start, image, opening, w.at, t, d.table, d.count);
     span::store(spans, w.row, row, line);
     v.at = next + t.length;
     v.last = last_link(image, w.last, opening);

@@ -16,7 +16,7 @@ use Rattle.texts.specs.Reading.{Checked, named, checked, first_of, check_of}
 
 module _ (T : Texts) where
   -- ---- the answer by the two checks
-  by_note : (a : reading.Checked) → reading.check_of T.note ≡ a → check_of T ≡ first_of (named 0 a) (checked 1 T.sheet)
+  pub by_note : (a : reading.Checked) → reading.check_of T.note ≡ a → check_of T ≡ first_of (named 0 a) (checked 1 T.sheet)
   unfolding check_of
   by_note a e = rw e
 

@@ -1,7 +1,7 @@
 // Where the last run of each length ends, so that a search for a run that is not there need not be made.
 #![tactic(auto)]
 
-ghost use Rattle.std.specs.Prelude.{◌≡◌, false, ◌<◌, ◌^◌, length, get_or, drop, set};
+ghost use Rattle.std.specs.Prelude.{◌≡◌, false, ◌<◌, ◌^◌, length, get_or, drop, set, replicate, None};
 ghost use Rattle.scan.specs.Reading.{past};
 ghost use Rattle.inline.specs.Pieces.{backtick};
 ghost use Rattle.inline.specs.ReadingPieces.{closing_run};
@@ -78,22 +78,21 @@ fn put(table: &mut [u32; LENGTHS], n: usize, e: usize)
     }
 }
 
-// For each length that the table has a place for the end of the last maximal run of exactly so many backticks in `p`,
+// For each length that the table, which is empty, has a place for the end of the last maximal run of exactly so many backticks in `p`,
 // and 0 where there is none: no place is below it, so that whoever asks for a later run needs no test for it.
-fn last_runs(p: &[u8]) -> [u32; LENGTHS]
-    requires { length p.now < 2 ^ 32 }
-    ensures { LastRuns p.now result }
+fn last_runs(p: &[u8], table: &mut [u32; LENGTHS])
+    requires p_len_bound { length p.now < 2 ^ 32 }
+    requires cleared { table.old ≡ replicate lengths 0 }
+    ensures { LastRuns p.now table.new }
 {
-    let mut table = [0; LENGTHS];
     let mut i = 0;
     // No range: the place leaps to the end of each run.
     while i < p.len() {
         let a = next_backtick(p, i);
         let e = backticks_end(p, a);
-        put(&mut table, e - a, e);
+        put(table, e - a, e);
         i = e;
     }
-    table
 }
 
 // Where the first maximal run of exactly `n` backticks ends, from `at` on, which is not inside a run.
@@ -107,6 +106,15 @@ fn closing_run_quick(p: &[u8], at: usize, n: usize, table: &[u32; LENGTHS]) -> O
         return None;
     }
     closing_run(p, at, n)
+}
+
+// Says anew that no table is made. Most texts make none, and where there is none, nothing is written.
+pub fn forget(runs: &mut Option<[u32; LENGTHS]>)
+    ensures { runs.new ≡ None }
+{
+    if runs.is_some() {
+        *runs = None;
+    }
 }
 
 // The same with a table that is made once a search has found nothing. Where every run is closed it is never made, and for a short text
@@ -132,7 +140,7 @@ pub fn closing_run_lazy(
     }
     let end = closing_run(p, at, n);
     if end.is_none() {
-        *runs = Some(last_runs(p));
+        last_runs(p, runs.insert([0; LENGTHS]));
     }
     end
 }

@@ -54,7 +54,7 @@ module _ {T : Texts} {e stop at : ℕ} (q : Plain T e at stop) {page₀ : Page} 
       part = front 92 (drop i (take stop T.note))
 
       module _ (h : i < stop) where
-        run_to : (i ≤ to) × (to ≤ length (take stop T.note))
+        pub run_to : (i ≤ to) × (to ≤ length (take stop T.note))
         run_to = run_within (as_is 92) (take stop T.note) i f (omega (arith, stop_size q))
 
         part_there : take (to - i) (drop i (take e T.note)) ≡ part

@@ -1,27 +1,23 @@
--- Each turn passes one and the same byte.
-use borrow.Author.Rules.{rules}
+-- What is left of both from a place in each has the bytes that stand there.
 use native.Mathlib.Omega.{arith}
-use mathlib.Core.Path.{sym, ◌∙◌}
-use Rattle.alike.proofs.Quick.{each_none, each_more, each_left, each_right, same_left}
+use Rattle.alike.proofs.Quick.{same_left, same_right}
+use Rattle.alike.proofs.Counting.{count_none, count_rest}
 use Rattle.alike.proofs.same_count.Goals as goal
 
-pub loop-n-init : goal.loop-n-init
-loop-n-init c = each_none _ _ _ _ _
+pub returns-then-not-same_at : goal.returns-then-not-same_at
+returns-then-not-same_at c = count_none _ _ _ _ _ c.same_at.ensures c.if-not-same_at.true
 
-pub overflow_add-i : goal.overflow_add-i
-overflow_add-i c = omega (arith, each_left _ _ _ _ _ _ 18446744073709551615 c.loop-n.invariant (search rules) (search rules))
+pub slice_bounds-count_on-count : goal.slice_bounds-count_on-count
+slice_bounds-count_on-count c = omega (arith, same_left _ _ _ _ _ c.same_at.ensures c.if-not-same_at.false)
 
-pub overflow_add-j : goal.overflow_add-j
-overflow_add-j c = omega (arith, each_right _ _ _ _ _ _ 18446744073709551615 c.loop-n.invariant (search rules) (search rules))
+pub slice_bounds-count_on-start : goal.slice_bounds-count_on-start
+slice_bounds-count_on-start c = omega (arith, same_left _ _ _ _ _ c.same_at.ensures c.if-not-same_at.false)
 
-pub overflow_add-n : goal.overflow_add-n
-overflow_add-n c = omega (arith, same_left _ _ _ _ _ c.same_at.ensures c.loop-n-test.true)
+pub slice_bounds-count_on-count-2 : goal.slice_bounds-count_on-count-2
+slice_bounds-count_on-count-2 c = omega (arith, same_right _ _ _ _ _ c.same_at.ensures c.if-not-same_at.false)
 
-pub loop-n-smaller : goal.loop-n-smaller
-loop-n-smaller c = omega (arith, same_left _ _ _ _ _ c.same_at.ensures c.loop-n-test.true)
-
-pub loop-n-preserved : goal.loop-n-preserved
-loop-n-preserved c = each_more _ _ _ _ _ _ c.loop-n.invariant c.same_at.ensures c.loop-n-test.true
+pub slice_bounds-count_on-start-2 : goal.slice_bounds-count_on-start-2
+slice_bounds-count_on-start-2 c = omega (arith, same_right _ _ _ _ _ c.same_at.ensures c.if-not-same_at.false)
 
 pub returns : goal.returns
-returns c = record { each = c.loop-n.invariant; stops = sym c.same_at.ensures ∙ c.loop-n-test.false }
+returns c = count_rest _ _ _ _ _ c.count_on.ensures

@@ -1,12 +1,13 @@
--- What is stored and returned are the numbers of the enquiry's answer.
-use mathlib.Core.Path.{sym, ◌∙◌}
-use Rattle.notice_c.proofs.Resolve.{found_kept, refusal_kept}
+-- The number is a 32-bit number, and the part ends within its text; what is stored and returned are the numbers of the enquiry's answer.
+use borrow.Author.Rules.{rules}
+use Rattle.notice_c.proofs.Resolve.{number_small, end_within, resolve_kept}
 use Rattle.notice_c.proofs.notice_resolve.Goals as goal
-use Rattle.notice_c.proofs.notice_resolve.Goals.{in-Ok, in-Err}
+
+pub overflow_add-end : goal.overflow_add-end
+overflow_add-end c = record { fits = end_within _ _ c.resolve-part.ensures c.part_start-start.ensures (search rules) (search rules) }
+
+pub overflow_cast-result : goal.overflow_cast-result
+overflow_cast-result c = record { fits = number_small _ _ c.resolve-part.ensures }
 
 pub returns : goal.returns
-returns c =
-    elim c.match-found.branch [
-      | in-Ok w ↦ found_kept (w.found-is ∙ sym w.in-Ok.is ∙ c.enquire-found.ensures) c.number.ensures c.value.ensures c.named.ensures w.found-is w.start-is
-      | in-Err w ↦ refusal_kept (w.found-is ∙ c.enquire-found.ensures) c.number.ensures c.value.ensures c.named.ensures (w.found-is ∙ w.in-Err.is) w.start-is
-    ]
+returns c = resolve_kept _ _ c.resolve-part.ensures c.part_start-start.ensures

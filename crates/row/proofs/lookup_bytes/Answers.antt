@@ -24,17 +24,17 @@ rows-preserved c =
     let x = c.after-x.ensures in
     let y = c.after-y.ensures in
     let v = c.loop-own.invariant in
-    let ev = rw (x.label, x.from, y.label, y.from) at c.are_apart.ensures in
-    let e = turn.differ _ _ _ _ _ _ x.at y.at ev v.3 c.if-are_apart.true in
+    let ev = rw (x.label, x.from, y.label, y.from) at c.is_apart_from.ensures in
+    let e = turn.differ _ _ _ _ _ _ x.at y.at ev v.3 c.if-is_apart_from.true in
     rw v.0 (row_miss _ _ _ c.rows.invariant c.if-d-k.false c.label-own.ensures (sym e))
 
 pub shared-requires : goal.shared-requires
 shared-requires c =
     let x = c.after-x.ensures in
     let y = c.after-y.ensures in
-    let ev = rw (x.label, x.from, y.label, y.from) at c.are_apart.ensures in
+    let ev = rw (x.label, x.from, y.label, y.from) at c.is_apart_from.ensures in
     let h = leb-false _ _ (rw x.label at (sym c.is_over.ensures ∙ c.if-is_over.false)) in
-    rw (x.label, y.label) (turn.meets _ _ _ _ _ _ x.at y.at ev c.if-are_apart.false h)
+    rw (x.label, y.label) (turn.meets _ _ _ _ _ _ x.at y.at ev c.if-is_apart_from.false h)
 
 pub loop-own-smaller : goal.loop-own-smaller
 loop-own-smaller c =
@@ -46,10 +46,10 @@ pub loop-own-preserved : goal.loop-own-preserved
 loop-own-preserved c =
     let x = c.after-x.ensures in
     let y = c.after-y.ensures in
-    let ev = rw (x.label, x.from, y.label, y.from) at c.are_apart.ensures in
+    let ev = rw (x.label, x.from, y.label, y.from) at c.is_apart_from.ensures in
     let h = leb-false _ _ (rw x.label at (sym c.is_over.ensures ∙ c.if-is_over.false)) in
     let v = c.loop-own.invariant in
-    (v.0, v.1, v.2, turn.shared_on _ _ _ _ _ _ x.at y.at ev c.if-are_apart.false v.3 h (rw (x.label, y.label) at c.in-Some.ensures))
+    (v.0, v.1, v.2, turn.shared_on _ _ _ _ _ _ x.at y.at ev c.if-is_apart_from.false v.3 h (rw (x.label, y.label) at c.in-Some.ensures))
 
 pub returns-then-d-k : goal.returns-then-d-k
 returns-then-d-k c = row_none _ _ _ c.rows.invariant c.if-d-k.true
@@ -59,6 +59,6 @@ returns-then-is_over c =
     let x = c.after-x.ensures in
     let y = c.after-y.ensures in
     let v = c.loop-own.invariant in
-    let ev = rw (x.label, x.from, y.label, y.from) at c.are_apart.ensures in
-    let e = turn.both_over _ _ _ _ _ _ x.at y.at ev c.if-are_apart.false v.3 (leb-true _ _ (rw x.label at (sym c.is_over.ensures ∙ c.if-is_over.true))) in
+    let ev = rw (x.label, x.from, y.label, y.from) at c.is_apart_from.ensures in
+    let e = turn.both_over _ _ _ _ _ _ x.at y.at ev c.if-is_apart_from.false v.3 (leb-true _ _ (rw x.label at (sym c.is_over.ensures ∙ c.if-is_over.true))) in
     rw v.0 (row_hit _ _ _ c.rows.invariant c.if-d-k.false c.label-own.ensures (sym e))

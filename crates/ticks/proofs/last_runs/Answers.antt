@@ -6,7 +6,7 @@ use Rattle.ticks.proofs.Passing.{begins, turn, all_seen}
 use Rattle.ticks.proofs.last_runs.Goals as goal
 
 pub loop-i-init : goal.loop-i-init
-loop-i-init c = begins c.args.p.now
+loop-i-init c = rw c.requires.cleared (begins c.args.p.now)
 
 pub overflow_sub-e : goal.overflow_sub-e
 overflow_sub-e c =
@@ -16,7 +16,7 @@ pub put-requires : goal.put-requires
 put-requires c =
     let h = within c.args.p.now c.loop-i.i c.loop-i-test.true c.next_backtick-a.ensures c.backticks_end-e.ensures in record {
       table_len = c.loop-i.invariant.size;
-      e_bound = omega (arith, c.requires);
+      e_bound = omega (arith, c.requires.p_len_bound);
     }
 
 pub loop-i-smaller : goal.loop-i-smaller

@@ -1,6 +1,5 @@
 -- As much as fits is copied, or nothing.
-use Rattle.std.proofs.Common.{refl, ap, sym, ◌∙◌}
-use borrow.Rule.Slice.PartMut.{put_mid}
+use Rattle.std.proofs.Common.{refl}
 use Rattle.buffer.proofs.Copying.{some_stored, none_stored}
 use Rattle.buffer.proofs.Page.put.Goals as goal
 
@@ -11,7 +10,7 @@ returns-then-n-end c =
       same_bytes = refl;
       written = record {
         size = refl;
-        stored = rw c.copy_from_slice.ensures.after (some_stored a.self.now.bytes.now a.text.now a.self.now.size c.min-end.ensures c.if-n-end.true);
+        stored = rw c.copy.ensures (some_stored a.self.now.bytes.now a.text.now a.self.now.size c.min-end.ensures c.if-n-end.true);
       };
     }
 

@@ -1,7 +1,7 @@
 use Prim.Native.Nat.{◌+◌, ◌-◌}
 use lib.ListN.{length}
 use Rattle.alike.proofs.Quick.{Each}
-use Rattle.alike.proofs.same_count.Given as goal
+use Rattle.alike.proofs.count_on.Given as goal
 
 abbrev pub invariant-loop-n : goal.invariant-loop-n
 invariant-loop-n l = Each l.most l.a l.b l.i l.j l.n

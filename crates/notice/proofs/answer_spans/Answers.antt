@@ -2,43 +2,30 @@
 use native.Mathlib.Omega.{arith}
 use Rattle.row.specs.Listing.{texts_of}
 use Rattle.notice.proofs.Returns.{refused, none_there, counted_fit, surely_fit, never_deep, stored}
-use Rattle.notice.proofs.with_marks.Goals as goal
-use Rattle.notice.proofs.with_marks.Goals.{then-not-surely_fits+in_ok-count_spans+else-branch-eq0, else-not-surely_fits}
-
-pub new-lent-requires : goal.new-lent-requires
-new-lent-requires g c = omega arith
-
-pub count_spans-requires : goal.count_spans-requires
-count_spans-requires g c = (omega arith, (c.requires.same_note, (c.requires.defined, (c.requires.ready, (c.requires.note_in_bounds, c.requires.size)))))
+use Rattle.notice.proofs.answer_spans.Goals as goal
+use Rattle.notice.proofs.answer_spans.Goals.{then-not-surely_fits+in_ok-count_spans+else-branch-eq0, else-not-surely_fits}
 
 pub returns-in_err-count_spans : goal.returns-in_err-count_spans
-returns-in_err-count_spans g c =
+returns-in_err-count_spans c =
     refused (texts_of c.args.definitions.now) c.args.definitions.now.count c.args.spans.now c.whole_rows-rows.ensures c.in_err-count_spans.ensures.counted _ c.from_residual.ensures.1
 
 pub returns-then-branch-eq0 : goal.returns-then-branch-eq0
-returns-then-branch-eq0 g c =
+returns-then-branch-eq0 c =
     none_there (texts_of c.args.definitions.now) c.args.definitions.now.count c.args.spans.now c.whole_rows-rows.ensures c.in_ok-count_spans.ensures.counted c.if-branch-eq0.true
 
 pub note_spans-requires : goal.note_spans-requires
-note_spans-requires g c = (
-  omega arith,
-  (
-    c.requires.same_note,
-    (
-      c.requires.defined,
-      (
-        elim c.if-not-surely_fits.branch [
-          | then-not-surely_fits+in_ok-count_spans+else-branch-eq0 w ↦ rw w.index-is w.count_spans.ensures.ready_2
-          | else-not-surely_fits w ↦ rw w.index-is c.requires.ready
-        ],
-        (c.requires.note_in_bounds, omega arith),
-      ),
-    ),
-  ),
-)
+note_spans-requires c = record {
+  same_note = c.requires.same_note;
+  defined = c.requires.defined;
+  indexed = elim c.if-not-surely_fits.branch [
+    | then-not-surely_fits+in_ok-count_spans+else-branch-eq0 w ↦ rw w.index-is w.count_spans.ensures.ready_2
+    | else-not-surely_fits w ↦ rw w.index-is c.requires.ready
+  ];
+  lent = record { places = omega (arith, c.requires.lent.places, c.if-not-surely_fits.auto.stack); bytes = omega (arith, c.requires.lent.bytes, c.if-not-surely_fits.auto.marks) };
+}
 
 pub returns-in_err-walk : goal.returns-in_err-walk
-returns-in_err-walk g c =
+returns-in_err-walk c =
     let T = texts_of c.args.definitions.now in
     let n = c.args.definitions.now.count in
     let u = c.args.spans.now in
@@ -52,7 +39,7 @@ returns-in_err-walk g c =
     c.in_err-walk.was _
 
 pub returns : goal.returns
-returns g c =
+returns c =
     let T = texts_of c.args.definitions.now in
     let n = c.args.definitions.now.count in
     let u = c.args.spans.now in
