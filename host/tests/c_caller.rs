@@ -1,5 +1,5 @@
 //! A C program calls the library through `include/notice.h`: compiled with the machine's C compiler
-//! and run.
+//! and run. What the library asks of whoever links it is read off it.
 
 use std::path::{Path, PathBuf};
 use std::process::Command;
@@ -12,14 +12,35 @@ fn file(path: &str, how: &str) -> PathBuf {
     file
 }
 
+fn library() -> PathBuf {
+    file(
+        "crates/notice_c/out/libnotice_c.a",
+        "run `rt lib` in crates/notice_c first",
+    )
+}
+
+/// The header lets it call memcpy as well.
+#[test]
+fn library_needs_memset_alone() {
+    let listed = Command::new("nm")
+        .arg("-u")
+        .arg(library())
+        .output()
+        .expect("nm, which comes with the C compiler, is on the PATH");
+    assert!(listed.status.success(), "nm refuses the library");
+    let listed = String::from_utf8_lossy(&listed.stdout);
+    let names: Vec<&str> = listed
+        .lines()
+        .filter_map(|line| line.trim().strip_prefix("U "))
+        .collect();
+    assert_eq!(names, ["memset"], "{listed}");
+}
+
 #[test]
 fn c_program_compiles_and_runs() {
     let program = file("host/c/main.c", "the C caller belongs there");
     let header = file("include/notice.h", "the header belongs there");
-    let library = file(
-        "crates/notice_c/out/libnotice_c.a",
-        "run `rt lib` in crates/notice_c first",
-    );
+    let library = library();
     let made = Path::new(env!("CARGO_TARGET_TMPDIR")).join("c_caller");
 
     let compiled = Command::new("cc")

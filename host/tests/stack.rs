@@ -14,8 +14,6 @@ use host::second::{DEFINITION_ROW_WIDTH, LONGEST_LABEL, SPAN_ROW_WIDTH};
 
 /// What `include/notice.h` promises for a call of the reader, the page writer, the enquiry and the comparison.
 const PROMISED: [usize; 4] = [272 * 1024, 328 * 1024, 52 * 1024, 52 * 1024];
-/// The table of folding: 1,328 entries of two bytes.
-const TABLE: usize = 2 * 1_328;
 /// The memory of a stack, which has room for more than the promise.
 const STACK: usize = 1 << 20;
 const PAGE: usize = 4096;
@@ -144,9 +142,9 @@ fn a_call_keeps_to_the_promised_stack() {
     let kept = most.iter().zip(PROMISED);
     let kept = kept.filter(|(bytes, promised)| (1..*promised).contains(bytes));
     assert_eq!(kept.count(), most.len(), "{most:?}");
-    // No form of a label is built: beside the table there is no room for the longest.
+    // No form of a label is built: there is no room for the longest.
     assert!(
-        most[2..].iter().all(|bytes| *bytes < TABLE + LONGEST_LABEL),
+        most[2..].iter().all(|bytes| *bytes < LONGEST_LABEL),
         "{most:?}"
     );
 }

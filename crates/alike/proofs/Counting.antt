@@ -1,11 +1,11 @@
 -- One and the same byte in what is left of two labels.
-use Prim.Native.Nat.{ℕ, ◌+◌, ◌-◌, ◌≤◌, ◌<◌}
+use Prim.Native.Nat.{ℕ, ◌+◌, ◌-◌}
 use native.Mathlib.Nat.{add-zero, zero-add}
 use native.Mathlib.Omega.{arith}
 use mathlib.Core.Path.{◌≡◌, refl, sym, ◌∙◌}
 use mathlib.Core.List.{List}
-use mathlib.Core.Bool.{Bool, true, false}
-use lib.ListN.{length, get_or, take, drop, length-drop}
+use mathlib.Core.Bool.{Bool, false}
+use lib.ListN.{length, take, drop, length-drop}
 use lib.Seq.{take_all, get_or-drop}
 use lib.Dec.{leb}
 use Rattle.scan.proofs.Test.{leb_same}

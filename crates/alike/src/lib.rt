@@ -1,6 +1,5 @@
 // Whether two link labels are equal, and the steps that tell it: both labels are read in step, with no copy, up to the first difference.
-// ASCII, and characters that are the same bytes, need no table. From the first other character on the table tells what each folds to: it is
-// lent, since it is built anew at each use.
+// ASCII, and characters that are the same bytes, need no table. From the first other character on the table tells what each folds to.
 #![tactic(auto)]
 
 ghost use Rattle.std.specs.Prelude.{◌≡◌, false, ◌<◌, length, get_or, leb, IfSome, IfOk, IfErr};
@@ -156,8 +155,7 @@ fn same_at(a: &[u8], b: &[u8], i: usize, j: usize, most: u8) -> bool
     (x == y) & ((32 < x) & (x <= most))
 }
 
-// How many such bytes stand in both from `i` and `j` on. Out of line, so that ASCII and other bytes are passed by one loop, in the same time.
-#[inline(never)]
+// How many such bytes stand in both from `i` and `j` on.
 fn count_on(a: &[u8], b: &[u8], i: usize, j: usize, most: u8) -> usize
     ensures { SameCount most a.now b.now i j result }
 {
@@ -213,6 +211,7 @@ pub fn are_apart(a: &[u8], b: &[u8], i: usize, j: usize, p: usize, q: usize, x: 
 }
 
 // How many bytes both labels have in common there, where they are not apart; none where the table has to tell.
+#[inline(always)]
 pub fn shared(x: &Place, y: &Place) -> Option<usize>
     requires { Meets x.now.label.now y.now.label.now x.now.at y.now.at }
     ensures { IfSome result (λ n. Shared x.now.label.now y.now.label.now x.now.at y.now.at n) }
@@ -267,7 +266,7 @@ pub fn same_quick(a: &[u8], b: &[u8]) -> Option<bool>
 // label gives from `at` on.
 #[derive(Clone, Copy)]
 pub struct Form<'a> {
-    table: &'a Table,
+    table: Table,
     label: &'a [u8],
     at: usize,
     left: u64,
@@ -279,7 +278,7 @@ impl<'a> Form<'a> {
         ensures { form result.label.now result.at result.left ≡ form label.now at left }
     {
         Form {
-            table,
+            table: *table,
             label,
             at,
             left,
@@ -302,7 +301,7 @@ struct Opened<'a> {
 }
 
 // What the character at `p` gives.
-fn character_at<'a>(table: &'a Table, s: &'a [u8], p: usize) -> Opened<'a>
+fn character_at<'a>(table: Table, s: &'a [u8], p: usize) -> Opened<'a>
     requires p_in_bounds { p < length s.now }
     requires p_value { blank (get_or s.now p 0) ≡ false }
     ensures label { result.rest.label.now ≡ s.now }
@@ -377,8 +376,8 @@ fn same_from(table: &Table, a: &[u8], b: &[u8], from: usize, to: usize) -> bool
         if x.is_over() {
             return true;
         }
-        let own = character_at(table, a, x.at);
-        let other = character_at(table, b, y.at);
+        let own = character_at(*table, a, x.at);
+        let other = character_at(*table, b, y.at);
         if own.byte != other.byte {
             return false;
         }
@@ -397,7 +396,7 @@ pub fn same_folded(table: &Table, a: &[u8], b: &[u8]) -> bool
     same_from(table, a, b, 0, 0)
 }
 
-// What `same_from` tells; the table is built here, so that no other call pays for its room.
+// What `same_from` tells. Out of line, so that what most labels need stays short.
 #[inline(never)]
 fn same_by_table(a: &[u8], b: &[u8], i: usize, j: usize) -> bool
     ensures { result ≡ equals (form_from a.now i) (form_from b.now j) }

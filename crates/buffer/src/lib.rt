@@ -11,7 +11,7 @@ pub struct Page<'a> {
     pub size: usize,
 }
 
-// Bytes over as many others. A loop, and not the library's copy: that calls memcpy or memmove, which whoever links the page writer may not have.
+// Bytes over as many others. A loop, and not the library's copy, which calls memcpy or memmove: the entries call memset alone.
 fn copy(to: &mut [u8], from: &[u8])
     requires { length to.old ≡ length from.now }
     ensures { to.new ≡ from.now }

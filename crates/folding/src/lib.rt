@@ -9,17 +9,17 @@ ghost use Rattle.folding.specs.Word.{utf8_word, several_word, word_of};
 
 mod entries;
 
-// The table of folding. It is built at each call of `new`: call it once and lend what it gives.
+// The table of folding. It stands in the program once: a value of this type is only its address.
 #[derive(Clone, Copy)]
 pub struct Table {
-    entries: [u16; 1328],
-    ghost whole: { entries ≡ table },
+    entries: &'static [u16; 1328],
+    ghost whole: { entries.now ≡ table },
 }
 
 impl Table {
     pub fn new() -> Table {
         Table {
-            entries: entries::FOLD,
+            entries: &entries::FOLD,
         }
     }
 

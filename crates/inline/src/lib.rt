@@ -28,6 +28,7 @@ impl Class<u8> for Quiet {
 }
 
 // The first place from `at` on where a bracket, a backtick, a backslash or an exclamation mark stands; the end is one.
+#[inline(always)]
 pub fn plain_end(s: &[u8], at: usize) -> usize
     ensures { result ≡ past quiet s.now at }
 {

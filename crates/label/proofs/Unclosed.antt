@@ -1,21 +1,21 @@
--- The turns of a loop that reads l as if a `]` followed it.
+-- Reading l as if a `]` followed it, from one place to a later one.
 use Rattle.std.specs.Prelude.{None, Option, Some}
-use Prim.Native.Nat.{ℕ, ◌+◌, ◌≤◌, ◌<◌}
+use Prim.Native.Nat.{ℕ, zero, suc, ◌+◌, ◌≤◌, ◌<◌}
 use native.Mathlib.Nat.{add-zero}
 use native.Mathlib.Omega.{arith}
 use mathlib.Core.Path.{◌≡◌, refl, sym, ap, ◌∙◌}
 use mathlib.Core.List.{List, [], ◌∷◌, ◌++◌}
 use mathlib.Core.Bool.{Bool, true, false, true≢false, not, ◌&&◌, ◌||◌}
-use borrow.Author.Tests.{eq-eqb, ne_eqb}
+use borrow.Author.Tests.{eq-eqb, ne_eqb, eqb-true, eqb-false, not-true}
 use lib.ListN.{length, get_or, drop, length-drop, drop_of_length-le}
 use lib.Seq.{get_or-drop}
 use lib.Dec.{eqb, eqb-zero-suc}
-use Rattle.scan.proofs.Test.{by, eqb_same}
+use Rattle.scan.proofs.Test.{by, eqb_same, neither}
 use Rattle.scan.specs.Byte.{punctuation, escapes}
-use Rattle.scan.specs.Reading.{bare, scan, closing_step, closing_from, closing}
-use Rattle.scan.proofs.Scan.{scan_cons, at_cons}
+use Rattle.scan.specs.Reading.{run, past, bare, scan, closing_step, closing_from, closing}
+use Rattle.scan.proofs.Scan.{scan_cons, at_cons, run_yes, run_no, run_fits}
 use Rattle.scan.proofs.Closing.{closes, bars, passed}
-use Rattle.label.specs.Reading.{is_at, escapes_in, unclosed}
+use Rattle.label.specs.Reading.{is_at, escapes_in, piece_end, plain, unclosed}
 
 -- neither of two, so not the second
 right_not : (k x y : Bool) → (k && (x || y)) ≡ false → (k && y) ≡ false
@@ -79,3 +79,75 @@ module _ (l : List ℕ) (i : ℕ) (inside : Bool) (inv : Goes l i inside) where
       last : (inside : Bool) → closing_from 93 91 93 (93 ∷ []) (record { at = i; inside = inside }) ≡ closing 93 91 93 (l ++ 93 ∷ []) 0 → not inside ≡ is_at (length l) (closing 93 91 93 (l ++ 93 ∷ []) 0)
       last false e = sym (eq-eqb i (length l) (omega arith)) ∙ ap (is_at (length l)) e
       last true e = ap (is_at (length l)) e
+
+-- a reading from i on tells of l, where i may be past the `]`, which then stands in an escape
+pub record Stands (l : List ℕ) (i : ℕ) : Type 0 where
+  pub within : i ≤ length l → Goes l i false
+  pub beyond : length l < i → false ≡ unclosed l
+
+module _ (l : List ℕ) where
+  pub stands : Stands l 0
+  stands = record { within = (λ h. started l); beyond = (λ h. let no : ⊥ = omega arith in absurd no) }
+
+  -- past one plain byte
+  on_plain : (i : ℕ) → i < length l → plain (get_or l i 0) ≡ true → Goes l i false → Goes l (i + 1) false
+  on_plain i h e g =
+      let (n, s) = neither (eqb (get_or l i 0) 91 || eqb (get_or l i 0) 93) _ (not-true _ e) in
+      went l i false g h n (rw s refl)
+
+  run_on : (k i : ℕ) → k ≤ run plain (drop i l) → Goes l i false → Goes l (i + k) false
+  run_on zero i h g = rw (add-zero i) g
+  run_on (suc k) i h g =
+      let m : i + 1 + k ≡ i + suc k = omega arith in
+      let b : i < length l = omega (arith, run_fits plain (drop i l), length-drop i l) in
+      by (plain (get_or l i 0))
+      (λ e.
+      let r = rw (at_cons l i b, run_yes plain _ _ e) at h in
+      rw m at (run_on k (i + 1) (omega arith) (on_plain i b e g)))
+      (λ e.
+      let r = rw (at_cons l i b, run_no plain _ _ e) at h in
+      let no : ⊥ = omega arith in absurd no)
+
+  pub over_plain : (i : ℕ) {j : ℕ} → j ≡ past plain l i → Stands l i → Stands l j
+  unfolding past
+  over_plain i e s =
+      record {
+        within = (λ h. rw e (run_on (run plain (drop i l)) i (omega arith) (s.within (omega arith))));
+        beyond = (λ h. s.beyond (omega (arith, run_fits plain (drop i l), length-drop i l)));
+      }
+
+  -- past a piece that is no bracket
+  pub over_piece : (i : ℕ) {j : ℕ} → i < length l → (eqb (get_or l i 0) 91 || eqb (get_or l i 0) 93) ≡ false → j ≡ piece_end l i → Stands l i → Stands l j
+  over_piece i {j} h n e s =
+      by (escapes_in l i)
+      (λ t.
+      let to : j ≡ i + 1 + 1 = e ∙ rw t (omega arith) in
+      let on : Goes l (i + 1) true = went l i false (s.within (omega arith)) h n (sym t) in
+      record {
+        within = (λ k. rw to (went l (i + 1) true on (omega arith) refl refl));
+        beyond = (λ k. ended l (i + 1) true on (omega arith) (omega arith));
+      })
+      (λ t.
+      let to : j ≡ i + 1 = e ∙ rw t refl in
+      record {
+        within = (λ k. rw to (went l i false (s.within (omega arith)) h n (sym t)));
+        beyond = (λ k. let no : ⊥ = omega arith in absurd no);
+      })
+
+  pub stopped : (i : ℕ) → i < length l → (eqb (get_or l i 0) 91 || eqb (get_or l i 0) 93) ≡ true → Stands l i → false ≡ unclosed l
+  stopped i h r s = refused l i false (s.within (omega arith)) h r
+
+  pub told : (i : ℕ) → length l ≤ i → Stands l i → eqb i (length l) ≡ unclosed l
+  told i h s =
+      by (eqb i (length l))
+      (λ e. e ∙ ended l i false (s.within (omega (arith, eqb-true i (length l) e))) h (omega (arith, eqb-true i (length l) e)))
+      (λ e. e ∙ s.beyond (omega (arith, eqb-false i (length l) e)))
+
+  pub piece_on : (i : ℕ) {j k : ℕ} → j ≡ piece_end l i → k ≡ past plain l j → i < k
+  unfolding past
+  piece_on i {j} {k} e f =
+      by (escapes_in l i)
+      (λ t.
+      let to : j ≡ i + 2 = e ∙ rw t refl in omega (arith, f))
+      (λ t.
+      let to : j ≡ i + 1 = e ∙ rw t refl in omega (arith, f))

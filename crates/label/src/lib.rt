@@ -2,9 +2,12 @@
 #![tactic(auto)]
 
 ghost use Rattle.std.specs.Prelude.{◌≡◌, ◌<◌, length, drop, leb};
+ghost use Rattle.scan.specs.Reading.{past};
 ghost use Rattle.text.specs.Sequences.{characters};
 ghost use Rattle.label.specs.Label.{label_limit};
-ghost use Rattle.label.specs.Reading.{inky, fits, label_end, escapes_in, unclosed, is_label};
+ghost use Rattle.label.specs.Reading.{inky, fits, label_end, escapes_in, piece_end, plain, unclosed, is_label};
+
+use scan::Class;
 
 // The most characters that a label may have.
 pub const LABEL_LIMIT: usize = 999;
@@ -14,9 +17,11 @@ pub const LABEL_LIMIT: usize = 999;
 fn character_count(l: &[u8]) -> usize
     ensures { result ≡ characters l.now }
 {
-    l.iter()
-        .filter(|b| text::sequence_length(**b).is_some())
-        .count()
+    let mut n = 0;
+    for b in l {
+        n += usize::from(text::sequence_length(*b).is_some());
+    }
+    n
 }
 
 // Whether `l` has a byte that is not blank.
@@ -63,20 +68,49 @@ fn escape_in(l: &[u8], i: usize) -> bool
     l[i] == 92 && (i + 1 == l.len() || scan::is_punctuation(scan::peek(l, i + 1)))
 }
 
+// Bytes that neither end a label nor start an escape.
+struct Plain;
+
+impl Class<u8> for Plain {
+    ghost has = { λ _ b. plain b };
+
+    fn holds(&self, b: u8) -> bool {
+        !((b == 91) | (b == 93) | (b == 92))
+    }
+}
+
+// The first place from `at` on where a bracket or a backslash stands; the end is one.
+fn plain_end(l: &[u8], at: usize) -> usize
+    ensures { result ≡ past plain l.now at }
+{
+    scan::past_after::<u8, Plain, 16>(l, at, &Plain)
+}
+
+// Past the escape that starts at `i` of `l`, which a `]` follows, or past the byte there where none does.
+fn past_piece(l: &[u8], i: usize) -> usize
+    requires { i < length l.now }
+    ensures { result ≡ piece_end l.now i }
+{
+    if escape_in(l, i) {
+        return i + 2;
+    }
+    i + 1
+}
+
 // Whether the `]` of `[` and `l` and `]` is the first that closes, and no other `[` opens before it.
-#[tactic(auto, using(crate::proofs::Unclosed::started, crate::proofs::Unclosed::refused, crate::proofs::Unclosed::went, crate::proofs::Unclosed::ended))]
 fn ends_unclosed(l: &[u8]) -> bool
     ensures { result ≡ unclosed l.now }
 {
-    let mut inside = false;
-    for i in 0..l.len() {
+    let mut i = 0;
+    // No range: the place leaps over escapes and over plain bytes.
+    while i < l.len() {
         let b = l[i];
-        if !inside & ((b == 91) | (b == 93)) {
+        if (b == 91) | (b == 93) {
             return false;
         }
-        inside = !inside & escape_in(l, i);
+        i = plain_end(l, past_piece(l, i));
     }
-    !inside
+    i == l.len()
 }
 
 // Whether `l`, set between `[` and `]`, is exactly one label. A text that holds a bracket is left at the first one, so that texts inside

@@ -28,7 +28,7 @@ fn front_of(h: u32) -> u32
     h / 16384
 }
 
-// The key of what is left of a label from `from` on, where `first` was mixed of what comes before. The table is built here.
+// The key of what is left of a label from `from` on, where `first` was mixed of what comes before.
 #[inline(never)]
 fn key_by_table(s: &[u8], from: usize, first: u32) -> u32
     ensures { result ≡ front (mixed first (form_from s.now from)) }
@@ -77,7 +77,7 @@ pub fn key_of(s: &[u8]) -> u32
     }
 }
 
-// How what is left of two labels from `from` on stands in the order. The table is built here.
+// How what is left of two labels from `from` on stands in the order.
 #[inline(never)]
 fn compare_by_table(a: &[u8], b: &[u8], from: usize) -> Ordering
     ensures { result ≡ order (form_from a.now from) (form_from b.now from) }

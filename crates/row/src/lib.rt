@@ -161,7 +161,7 @@ fn lookup_folded<'a>(table: &Table, d: &Definitions<'a>, from: usize, label: &[u
     None
 }
 
-// The same; the table of folding is built here, once for all rows, so that no other lookup pays for its room.
+// The same with the table of folding.
 #[inline(never)]
 fn lookup_by_table<'a>(d: &Definitions<'a>, from: usize, label: &[u8]) -> Option<usize>
     ensures { result ≡ row_from (texts_of d.now) d.now.table.now label.now from d.now.count }

@@ -2,14 +2,13 @@
 use Prim.Native.Nat.{ℕ, zero, suc, ◌+◌, ◌-◌, ◌*◌, ◌/◌, ◌≤◌, ◌<◌}
 use native.Mathlib.Nat.{add-zero, zero-add, div-mul-le_self}
 use native.Mathlib.Omega.{arith}
-use mathlib.Core.Path.{◌≡◌, refl, sym, ap, ◌∙◌}
+use mathlib.Core.Path.{◌≡◌, sym, ap, ◌∙◌}
 use mathlib.Core.List.{List, [], ◌∷◌}
 use mathlib.Core.Bool.{Bool, true, false, true≢false, not, ◌&&◌}
 use borrow.Author.Tests.{le-leb, lt-leb, ne_eqb, leb-true, leb-false, not-true, not-false}
 use lib.ListN.{length, get_or, take, drop, length-drop}
 use lib.Seq.{drop-drop, length-take-le}
-use Rattle.std.proofs.lemmas.List.{drop-take, length-take}
-use lib.Dec.{eqb, leb}
+use lib.Dec.{eqb}
 use Rattle.scan.proofs.Test.{by, leb_same}
 use Rattle.scan.specs.Reading.{run, past, runs, past_strides}
 use Rattle.scan.proofs.Scan.{run_yes, run_no, run_fits, at_item}
@@ -128,48 +127,3 @@ module _ {A : Type 0} (test : A → Bool) where
       let size : i + n - i ≡ n = omega arith in
       let long : length (take n (drop i s)) ≡ n = length-take-le n (drop i s) (omega (arith, length-drop i s)) in
       rw (size, long) at e ∙ leb_same n _ n _ (take_from n (drop i s)) (take_to n (drop i s))
-
-  -- ---- looking at the first m items alone: what stops there stops in all, and else all up to there pass
-  take_stop : (k : ℕ) (l : List A) → run test (take k l) < length (take k l) → run test l ≡ run test (take k l)
-  unfolding run
-  take_stop zero l h = let no : ⊥ = omega arith in absurd no
-  take_stop (suc k) [] h = refl
-  take_stop (suc k) (b ∷ l) h =
-      by (test b)
-      (λ e. omega (arith, run_yes test b l e, run_yes test b (take k l) e, take_stop k l (omega (arith, run_yes test b (take k l) e))))
-      (λ e. omega (arith, run_no test b l e, run_no test b (take k l) e))
-
-  module _ (s : List A) (at m : ℕ) {i : ℕ} (e : i ≡ past test (take m s) at) where
-    ahead : {R : Type 0} → (m ≤ at → R) → (at ≤ m → drop at (take m s) ≡ take (m - at) (drop at s) → R) → R
-    ahead f g =
-        by (leb at m)
-        (λ t. let h = leb-true at m t in let q : at + (m - at) ≡ m = omega arith in g h (rw q at (drop-take at (m - at) s)))
-        (λ t. let h = leb-false at m t in f (omega arith))
-
-    pub near_stop : m ≤ length s → i < m → i ≡ past test s at
-    unfolding past
-    near_stop k h =
-        ahead (λ f. let no : ⊥ = omega (arith, e) in absurd no)
-        (λ f q.
-        let r = rw q at e in
-        let long = length-take-le (m - at) (drop at s) (omega (arith, length-drop at s)) in
-        let stop = take_stop (m - at) (drop at s) (omega (arith, r, long)) in
-        omega (arith, r, stop))
-
-    pub near_on : m ≤ i → past test s i ≡ past test s at
-    unfolding past
-    near_on h =
-        ahead
-        (λ f.
-        let l = drop at (take m s) in
-        let stay : i ≡ at = omega (arith, e, run_fits test l, length-drop at (take m s), length-take m s) in
-        rw stay)
-        (λ f q.
-        let k = m - at in
-        let l = drop at s in
-        let r = rw q at e in
-        let full : k ≤ run test (take k l) = omega (arith, r, run_fits test (take k l), length-take k l) in
-        let over = run_over k l (take_from k l full) in
-        let to : at + k ≡ i = omega (arith, r, run_fits test (take k l), length-take k l) in
-        let on = rw (drop-drop k at s, to) at over in
-        omega (arith, on, to))

@@ -93,8 +93,7 @@ fn all_pass<T: Copy, C: Class<T>>(s: &[T], class: &C) -> bool
     all
 }
 
-// Past the whole strides of sixteen items from `at` on that all pass. Out of line, so that what calls it stays short: most runs end before.
-#[inline(never)]
+// Past the whole strides of sixteen items from `at` on that all pass.
 pub fn past_strides<T: Copy, C: Class<T>>(s: &[T], at: usize, class: &C) -> usize
     ensures { result ≡ past_strides (C.has class.now) s.now at }
 {
@@ -123,21 +122,27 @@ pub fn past<T: Copy, C: Class<T>>(s: &[T], at: usize, class: &C) -> usize
     at.max(s.len())
 }
 
-// The same, by strides.
+// The same, by strides. Out of line, so that what calls it stays short.
+#[inline(never)]
 pub fn past_long<T: Copy, C: Class<T>>(s: &[T], at: usize, class: &C) -> usize
     ensures { result ≡ past (C.has class.now) s.now at }
 {
     past(s, past_strides(s, at, class), class)
 }
 
-// The same. Strides are tried once `N` items are passed: most runs are shorter.
+// The same, where most runs are short: strides are tried once `N` items are passed.
+#[inline(always)]
 pub fn past_after<T: Copy, C: Class<T>, const N: usize>(s: &[T], at: usize, class: &C) -> usize
     ensures { result ≡ past (C.has class.now) s.now at }
 {
-    let near = at.saturating_add(N).min(s.len());
-    let i = past(&s[..near], at, class);
-    if i < near {
-        return i;
+    for i in at..s.len() {
+        let x = s[i];
+        if !class.holds(x) {
+            return i;
+        }
+        if i + 1 - at == N {
+            return past_long(s, i + 1, class);
+        }
     }
-    past_long(s, i, class)
+    at.max(s.len())
 }

@@ -1,10 +1,16 @@
--- What is looked at first is the front of the slice.
-use Rattle.std.proofs.Common.{arith, ◌∙◌}
-use Rattle.scan.proofs.Strides.{near_stop, near_on}
+-- The items that were passed one by one, and then the rest.
+use Rattle.std.proofs.Common.{rules, ◌∙◌}
+use Rattle.scan.proofs.Scan.{passed_item, stopped_item, past_whole}
 use Rattle.scan.proofs.past_after.Goals as goal
 
-pub returns-then-i-near : goal.returns-then-i-near
-returns-then-i-near g c = near_stop (g.C.Class.has c.args.class.now) c.args.s.now c.args.at _ c.past-i.ensures (omega arith) c.if-i-near.true
+pub returns-then-not-holds : goal.returns-then-not-holds
+returns-then-not-holds g c = search (stopped_item, rules)
+
+pub returns-then-i-at : goal.returns-then-i-at
+returns-then-i-at g c = c.past_long.ensures ∙ search (passed_item, rules)
+
+pub loop-i-preserved : goal.loop-i-preserved
+loop-i-preserved g c = search (passed_item, rules)
 
 pub returns : goal.returns
-returns g c = c.past_long.ensures ∙ near_on (g.C.Class.has c.args.class.now) c.args.s.now c.args.at _ c.past-i.ensures (omega arith)
+returns g c = search (past_whole, rules)
