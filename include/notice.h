@@ -62,8 +62,8 @@
  *
  * Cost
  *
- * Stack: a call takes less than 272 KiB for itself, and notice_render less than 328 KiB, whatever the texts (229,744 bytes at most
- * for notice_read, 295,504 for notice_render, 672 for notice_resolve, 256 for notice_same_label). Of notice_read's and
+ * Stack: a call takes less than 272 KiB for itself, and notice_render less than 328 KiB, whatever the texts (229,888 bytes at most
+ * for notice_read, 295,648 for notice_render, 672 for notice_resolve, 256 for notice_same_label). Of notice_read's and
  * notice_render's 65,538 are the list of the note's paragraphs, 51,884 an index of over 256 definitions, and up to 65,532 more are
  * taken while it is built; a note of at most 4,096 bytes and a few definitions takes less. 65,536 of notice_render's are the table of
  * the places where links, images and code spans start. It was measured on the notes of the benchmark, beside their sheets and as their

@@ -52,12 +52,12 @@ pub fn blank_line(s: &[u8], at: usize) -> bool
     line_ends(s, past_padding(s, at))
 }
 
-// Past the line that starts at `at`, and its LF. Long stretches without an LF are passed by strides.
+// Past the line that starts at `at`, and its LF. An empty line is told by one byte; long stretches without an LF are passed by strides.
 #[tactic(auto, using(crate::proofs::Turns::feed_taken, crate::proofs::Turns::text_ended))]
 pub fn line_end(s: &[u8], at: usize) -> usize
     ensures { result ≡ at + line_length (drop at s.now) }
 {
-    let end = scan::past_long(s, at, &InLine);
+    let end = scan::past_after::<u8, InLine, 1>(s, at, &InLine);
     if end < s.len() {
         return end + 1;
     }

@@ -9,7 +9,10 @@ ghost use Rattle.folding.specs.Word.{utf8_word, several_word, word_of};
 
 mod entries;
 
-// The table of folding. It stands in the program once: a value of this type is only its address.
+// The entries, which stand in the program once. As a constant they would be built anew at each use.
+static ENTRIES: [u16; 1328] = entries::FOLD;
+
+// The table of folding, by its address.
 #[derive(Clone, Copy)]
 pub struct Table {
     entries: &'static [u16; 1328],
@@ -18,9 +21,7 @@ pub struct Table {
 
 impl Table {
     pub fn new() -> Table {
-        Table {
-            entries: &entries::FOLD,
-        }
+        Table { entries: &ENTRIES }
     }
 
     // The bytes that `c` folds to, the first lowest. Where they are on the short list, the table's entry says nothing.

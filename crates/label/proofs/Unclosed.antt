@@ -15,7 +15,7 @@ use Rattle.scan.specs.Byte.{punctuation, escapes}
 use Rattle.scan.specs.Reading.{run, past, bare, scan, closing_step, closing_from, closing}
 use Rattle.scan.proofs.Scan.{scan_cons, at_cons, run_yes, run_no, run_fits}
 use Rattle.scan.proofs.Closing.{closes, bars, passed}
-use Rattle.label.specs.Reading.{is_at, escapes_in, piece_end, plain, unclosed}
+use Rattle.label.specs.Reading.{is_at, escapes_in, plain, unclosed}
 
 -- neither of two, so not the second
 right_not : (k x y : Bool) → (k && (x || y)) ≡ false → (k && y) ≡ false
@@ -116,23 +116,23 @@ module _ (l : List ℕ) where
         beyond = (λ h. s.beyond (omega (arith, run_fits plain (drop i l), length-drop i l)));
       }
 
-  -- past a piece that is no bracket
-  pub over_piece : (i : ℕ) {j : ℕ} → i < length l → (eqb (get_or l i 0) 91 || eqb (get_or l i 0) 93) ≡ false → j ≡ piece_end l i → Stands l i → Stands l j
-  over_piece i {j} h n e s =
-      by (escapes_in l i)
-      (λ t.
-      let to : j ≡ i + 1 + 1 = e ∙ rw t (omega arith) in
-      let on : Goes l (i + 1) true = went l i false (s.within (omega arith)) h n (sym t) in
-      record {
-        within = (λ k. rw to (went l (i + 1) true on (omega arith) refl refl));
-        beyond = (λ k. ended l (i + 1) true on (omega arith) (omega arith));
-      })
-      (λ t.
-      let to : j ≡ i + 1 = e ∙ rw t refl in
-      record {
-        within = (λ k. rw to (went l i false (s.within (omega arith)) h n (sym t)));
-        beyond = (λ k. let no : ⊥ = omega arith in absurd no);
-      })
+  -- past a byte that is no bracket: the escape that it starts, or itself
+  module _ (i : ℕ) (h : i < length l) (n : (eqb (get_or l i 0) 91 || eqb (get_or l i 0) 93) ≡ false) (s : Stands l i) where
+    pub over_escape : {p : Bool} → p ≡ escapes_in l i → p ≡ true → Stands l (i + 2)
+    over_escape e t =
+        let to : i + 2 ≡ i + 1 + 1 = omega arith in
+        let on : Goes l (i + 1) true = went l i false (s.within (omega arith)) h n (sym t ∙ e) in
+        record {
+          within = (λ k. rw to (went l (i + 1) true on (omega arith) refl refl));
+          beyond = (λ k. ended l (i + 1) true on (omega arith) (omega arith));
+        }
+
+    pub over_byte : {p : Bool} → p ≡ escapes_in l i → p ≡ false → Stands l (i + 1)
+    over_byte e t =
+        record {
+          within = (λ k. went l i false (s.within (omega arith)) h n (sym t ∙ e));
+          beyond = (λ k. let no : ⊥ = omega arith in absurd no);
+        }
 
   pub stopped : (i : ℕ) → i < length l → (eqb (get_or l i 0) 91 || eqb (get_or l i 0) 93) ≡ true → Stands l i → false ≡ unclosed l
   stopped i h r s = refused l i false (s.within (omega arith)) h r
@@ -143,11 +143,6 @@ module _ (l : List ℕ) where
       (λ e. e ∙ ended l i false (s.within (omega (arith, eqb-true i (length l) e))) h (omega (arith, eqb-true i (length l) e)))
       (λ e. e ∙ s.beyond (omega (arith, eqb-false i (length l) e)))
 
-  pub piece_on : (i : ℕ) {j k : ℕ} → j ≡ piece_end l i → k ≡ past plain l j → i < k
+  pub plain_on : (i : ℕ) {j : ℕ} → j ≡ past plain l (i + 1) → i < j
   unfolding past
-  piece_on i {j} {k} e f =
-      by (escapes_in l i)
-      (λ t.
-      let to : j ≡ i + 2 = e ∙ rw t refl in omega (arith, f))
-      (λ t.
-      let to : j ≡ i + 1 = e ∙ rw t refl in omega (arith, f))
+  plain_on i e = omega (arith, e)

@@ -34,10 +34,6 @@ is_at n None = false
 abbrev pub escapes_in : List ℕ → ℕ → Bool
 escapes_in l i = eqb (get_or l i 0) 92 && (eqb (i + 1) (length l) || punctuation (get_or l (i + 1) 0))
 
--- past the escape that starts at i, or past the byte there where none does
-abbrev pub piece_end : List ℕ → ℕ → ℕ
-piece_end l i = cond (escapes_in l i) (i + 2) (i + 1)
-
 -- neither a bracket nor a backslash
 abbrev pub plain : ℕ → Bool
 plain b = not (eqb b 91 || eqb b 93 || eqb b 92)

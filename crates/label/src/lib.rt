@@ -5,7 +5,7 @@ ghost use Rattle.std.specs.Prelude.{◌≡◌, ◌<◌, length, drop, leb};
 ghost use Rattle.scan.specs.Reading.{past};
 ghost use Rattle.text.specs.Sequences.{characters};
 ghost use Rattle.label.specs.Label.{label_limit};
-ghost use Rattle.label.specs.Reading.{inky, fits, label_end, escapes_in, piece_end, plain, unclosed, is_label};
+ghost use Rattle.label.specs.Reading.{inky, fits, label_end, escapes_in, plain, unclosed, is_label};
 
 use scan::Class;
 
@@ -86,17 +86,6 @@ fn plain_end(l: &[u8], at: usize) -> usize
     scan::past_after::<u8, Plain, 16>(l, at, &Plain)
 }
 
-// Past the escape that starts at `i` of `l`, which a `]` follows, or past the byte there where none does.
-fn past_piece(l: &[u8], i: usize) -> usize
-    requires { i < length l.now }
-    ensures { result ≡ piece_end l.now i }
-{
-    if escape_in(l, i) {
-        return i + 2;
-    }
-    i + 1
-}
-
 // Whether the `]` of `[` and `l` and `]` is the first that closes, and no other `[` opens before it.
 fn ends_unclosed(l: &[u8]) -> bool
     ensures { result ≡ unclosed l.now }
@@ -108,7 +97,11 @@ fn ends_unclosed(l: &[u8]) -> bool
         if (b == 91) | (b == 93) {
             return false;
         }
-        i = plain_end(l, past_piece(l, i));
+        if escape_in(l, i) {
+            i += 2;
+        } else {
+            i = plain_end(l, i + 1);
+        }
     }
     i == l.len()
 }

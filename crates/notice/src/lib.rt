@@ -255,7 +255,8 @@ fn with_index<'a, const N: usize>(
     read_spans(definitions, paragraphs, &mut index, spans)
 }
 
-// The same with as large an index as the definitions ask for.
+// The same with as large an index as the definitions ask for. Out of line: a call that is refused before pays for no index.
+#[inline(never)]
 fn read_joined<'a>(
     definitions: &Definitions<'a>,
     paragraphs: &Paragraphs<'a>,

@@ -93,7 +93,8 @@ fn all_pass<T: Copy, C: Class<T>>(s: &[T], class: &C) -> bool
     all
 }
 
-// Past the whole strides of sixteen items from `at` on that all pass.
+// Past the whole strides of sixteen items from `at` on that all pass. Out of line, so that what calls it stays short.
+#[inline(never)]
 pub fn past_strides<T: Copy, C: Class<T>>(s: &[T], at: usize, class: &C) -> usize
     ensures { result ≡ past_strides (C.has class.now) s.now at }
 {
@@ -122,7 +123,7 @@ pub fn past<T: Copy, C: Class<T>>(s: &[T], at: usize, class: &C) -> usize
     at.max(s.len())
 }
 
-// The same, by strides. Out of line, so that what calls it stays short.
+// The same, by strides; out of line too.
 #[inline(never)]
 pub fn past_long<T: Copy, C: Class<T>>(s: &[T], at: usize, class: &C) -> usize
     ensures { result ≡ past (C.has class.now) s.now at }
@@ -130,7 +131,7 @@ pub fn past_long<T: Copy, C: Class<T>>(s: &[T], at: usize, class: &C) -> usize
     past(s, past_strides(s, at, class), class)
 }
 
-// The same, where most runs are short: strides are tried once `N` items are passed.
+// The same. Strides are tried once `N` items are passed.
 #[inline(always)]
 pub fn past_after<T: Copy, C: Class<T>, const N: usize>(s: &[T], at: usize, class: &C) -> usize
     ensures { result ≡ past (C.has class.now) s.now at }
