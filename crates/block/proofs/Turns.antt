@@ -1,14 +1,15 @@
 -- The end of a line and a blank line from a place on.
 use Prim.Native.Nat.{ℕ, ◌+◌, ◌≤◌, ◌<◌}
 use native.Mathlib.Omega.{arith}
-use mathlib.Core.Path.{◌≡◌, refl, sym}
+use mathlib.Core.Path.{◌≡◌, refl, sym, ◌∙◌}
 use mathlib.Core.List.{List, [], ◌∷◌}
 use lib.Dec.{eqb}
-use lib.ListN.{length, drop, length-drop}
+use lib.ListN.{length, get_or, drop, length-drop}
 use lib.Seq.{get_or-drop}
-use Rattle.scan.specs.Reading.{run, past}
+use Rattle.scan.specs.Reading.{run, past, past_strides}
 use Rattle.scan.proofs.Test.{by, leb_same}
-use Rattle.scan.proofs.Scan.{run_yes, run_no}
+use Rattle.scan.proofs.Scan.{run_yes, run_no, past_none, peek_inside}
+use Rattle.scan.proofs.Strides.{past_through}
 use Rattle.block.specs.Line.{padding, in_line}
 use Rattle.block.specs.Reading.{line_ends, blank_line, line_length}
 
@@ -44,3 +45,13 @@ module _ (s : List ℕ) (at : ℕ) {end : ℕ} (e : end ≡ past in_line s at) w
   pub text_ended : length s ≤ end → end ≡ at + line_length (drop at s)
   unfolding past
   text_ended h = omega (arith, line_ended (drop at s) (omega (arith, length-drop at s)))
+
+module _ (s : List ℕ) (at : ℕ) where
+  pub empty_line : {b : ℕ} → b ≡ get_or s at 0 → b ≡ 10 → at + 1 ≡ at + line_length (drop at s)
+  empty_line e f =
+      let here : get_or s at 0 ≡ 10 = sym e ∙ f in
+      feed_taken s at (past_none in_line s at (rw here refl)) (peek_inside s at (λ z. let no : ⊥ = omega (arith, here, z) in no))
+
+  -- by strides, and then byte by byte
+  pub line_past : {near end : ℕ} → near ≡ past_strides in_line s at → end ≡ past in_line s near → end ≡ past in_line s at
+  line_past e f = f ∙ past_through in_line in_line (λ b q. q) s at e

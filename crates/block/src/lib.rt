@@ -53,11 +53,14 @@ pub fn blank_line(s: &[u8], at: usize) -> bool
 }
 
 // Past the line that starts at `at`, and its LF. An empty line is told by one byte; long stretches without an LF are passed by strides.
-#[tactic(auto, using(crate::proofs::Turns::feed_taken, crate::proofs::Turns::text_ended))]
 pub fn line_end(s: &[u8], at: usize) -> usize
     ensures { result ≡ at + line_length (drop at s.now) }
 {
-    let end = scan::past_after::<u8, InLine, 1>(s, at, &InLine);
+    if scan::peek(s, at) == 10 {
+        return at + 1;
+    }
+    let near = scan::past_strides(s, at, &InLine);
+    let end = scan::past(s, near, &InLine);
     if end < s.len() {
         return end + 1;
     }

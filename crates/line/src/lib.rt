@@ -20,7 +20,9 @@ impl Line {
     }
 }
 
-// The line on which `place` stands, from that of an earlier place on. Nothing is counted where it is the same.
+// The line on which `place` stands, from that of an earlier place on. Nothing is counted where it is the same. Out of line, so that what calls it
+// stays short: most places stand on the line before.
+#[inline(never)]
 #[tactic(auto, using(crate::proofs::Lines::number_fits))]
 pub fn line_at(s: &[u8], from: Line, place: usize) -> Line
     requires before { Before s.now from place }

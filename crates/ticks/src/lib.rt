@@ -13,7 +13,7 @@ use scan::Class;
 pub const LENGTHS: usize = 1024;
 
 // A text shorter than this is searched sooner than the table is cleared.
-const SHORT: usize = 64;
+const SHORT: usize = 48;
 
 struct Backtick;
 
