@@ -1,5 +1,5 @@
 -- The brackets that are open, a step past a bracket, and what the whole reading of a paragraph answers.
-use Rattle.std.specs.Prelude.{ℕ, Bool, ◌+◌, ◌≤◌, ◌<◌, ◌^◌, ◌≡◌, List, reverse, length, get_or, take, set, map, Result}
+use Rattle.std.specs.Prelude.{ℕ, Bool, ◌+◌, ◌≤◌, ◌<◌, ◌^◌, ◌≡◌, List, reverse, length, get_or, take, set, map, replicate, Result, None, false}
 use Rattle.line.specs.Line.{line_of}
 use Rattle.line.specs.Promise.{Before}
 use Rattle.note.specs.Note.{depth_limit}
@@ -16,11 +16,16 @@ use Rattle.step.specs.Reading.{rows_for, stored_all}
 use Rattle.step.specs.Promise.{last_place}
 use Rattle.step.specs.declared.Walk.{Walk}
 use Rattle.paragraph.specs.declared.Bracket.{Bracket}
+use Rattle.paragraph.specs.declared.Lent.{Lent as LentRoom}
 use Rattle.paragraph.specs.declared.Deep.{Deep}
 use Rattle.paragraph.specs.Tally.{number_of, in_note, tally_of}
 
 abbrev pub bracket : ℕ → ℕ → Bracket
 bracket at line = record { at = at; line = line }
+
+-- what is lent, before anything is written in it; it has n marks
+abbrev pub cleared : (n : ℕ) → LentRoom n
+cleared n = record { stack = replicate depth_limit (bracket 0 0); runs = None; marks = replicate n false }
 
 -- the places on the stack, and the lines
 abbrev pub places : List Bracket → List ℕ

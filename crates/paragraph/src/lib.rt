@@ -1,6 +1,9 @@
 // The spans of one paragraph, read from left to right.
 #![tactic(auto)]
 
+#[cfg(test)]
+mod tests;
+
 ghost use Rattle.std.specs.Prelude.{◌≡◌};
 ghost use Rattle.row.specs.First.{bytes_of};
 ghost use Rattle.row.specs.Row.{range};
@@ -10,7 +13,7 @@ ghost use Rattle.tail.specs.Ending.{all_labels};
 ghost use Rattle.span.specs.Row.{whole_rows};
 ghost use Rattle.step.specs.Reading.{all_definitions};
 ghost use Rattle.step.specs.Promise.{Bounds, Lined, lined};
-ghost use Rattle.paragraph.specs.Promise.{opened, pushed, Room, Waits, Closing, Brackets, Lies, Lent, Reads};
+ghost use Rattle.paragraph.specs.Promise.{cleared, opened, pushed, Room, Waits, Closing, Brackets, Lies, Lent as IsLent, Reads};
 
 use row::Definitions;
 use step::Walk;
@@ -23,6 +26,27 @@ pub const DEPTH_LIMIT: usize = 1024;
 pub struct Bracket {
     pub at: u32,
     pub line: u32,
+}
+
+// Room for the reading of paragraphs, for a caller that has none of its own: it lends the three parts. What they hold is of no account. The
+// stack has the brackets that are open.
+#[derive(Drop)]
+pub struct Lent<const MARKS: usize> {
+    pub stack: [Bracket; DEPTH_LIMIT],
+    pub runs: Option<[u32; ticks::LENGTHS]>,
+    pub marks: [bool; MARKS],
+}
+
+impl<const MARKS: usize> Lent<MARKS> {
+    pub fn new() -> Lent<MARKS>
+        ensures { result ≡ cleared MARKS }
+    {
+        Lent {
+            stack: [Bracket { at: 0, line: 0 }; DEPTH_LIMIT],
+            runs: None,
+            marks: [false; MARKS],
+        }
+    }
 }
 
 // The place in the note of the first bracket too many.
@@ -98,7 +122,7 @@ pub fn read_paragraph<'a>(
 ) -> Result<Walk, Deep>
     requires lies { Lies definitions.now.note.now start end definitions.now.count from }
     requires indexed { ReadyFor definitions.now index.old }
-    requires lent { Lent definitions.now.note.now stack.old marks.old }
+    requires lent { IsLent definitions.now.note.now stack.old marks.old }
     ensures reads { Reads definitions.now.note.now start (bytes_of definitions.now.note.now (range start end)) (all_labels definitions.now) (all_definitions definitions.now) from.row spans.old result spans.new }
     ensures indexed_2 { ReadyFor definitions.now index.new }
 {
